@@ -1,0 +1,100 @@
+-- What each case of an answer tells: the number of document 01, "What a call hands back", and the value handed back beside it, which is the new
+-- label of an insertion, the shown count of marks and the index given by a walk, and 0 elsewhere.
+-- Assumes nothing.
+use Prim.Native.Nat.{ℕ}
+use Rattle.answers.specs.declared.SchemaAnswer.{SchemaAnswer}
+use Rattle.answers.specs.declared.SchemaAnswer.the-variants as schema
+use Rattle.answers.specs.declared.TableAnswer.{TableAnswer}
+use Rattle.answers.specs.declared.TableAnswer.the-variants as table
+use Rattle.answers.specs.declared.StartAnswer.{StartAnswer}
+use Rattle.answers.specs.declared.StartAnswer.the-variants as start
+use Rattle.answers.specs.declared.MergeAnswer.{MergeAnswer}
+use Rattle.answers.specs.declared.MergeAnswer.the-variants as merge
+use Rattle.answers.specs.declared.MarksAnswer.{MarksAnswer}
+use Rattle.answers.specs.declared.MarksAnswer.the-variants as marks
+use Rattle.answers.specs.declared.WalkAnswer.{WalkAnswer}
+use Rattle.answers.specs.declared.WalkAnswer.the-variants as walk
+use Rattle.answers.specs.declared.InsertionAnswer.{InsertionAnswer}
+use Rattle.answers.specs.declared.InsertionAnswer.the-variants as insertion
+use Rattle.answers.specs.declared.UpdateAnswer.{UpdateAnswer}
+use Rattle.answers.specs.declared.UpdateAnswer.the-variants as update
+use Rattle.answers.specs.declared.DeletionAnswer.{DeletionAnswer}
+use Rattle.answers.specs.declared.DeletionAnswer.the-variants as deletion
+
+pub record Told : Type 0 where
+  pub number : ℕ
+  pub value : ℕ
+
+abbrev pub told : ℕ → ℕ → Told
+told n v = record { number = n; value = v }
+
+abbrev pub schemaTold : SchemaAnswer → Told
+schemaTold schema.Good = told 0 0
+schemaTold schema.WrongLength = told 1 0
+schemaTold schema.SchemaBroken = told 2 0
+
+abbrev pub tableTold : TableAnswer → Told
+tableTold table.Good = told 0 0
+tableTold table.WrongLength = told 1 0
+tableTold table.SchemaBroken = told 2 0
+tableTold table.TableBroken = told 3 0
+
+abbrev pub startTold : StartAnswer → Told
+startTold start.Started = told 0 0
+startTold start.WrongLength = told 1 0
+startTold start.WrongReplica = told 5 0
+
+abbrev pub mergeTold : MergeAnswer → Told
+mergeTold merge.Merged = told 0 0
+mergeTold merge.WrongLength = told 1 0
+mergeTold merge.SchemaBroken = told 2 0
+mergeTold merge.OwnBroken = told 3 0
+mergeTold merge.OtherBroken = told 4 0
+mergeTold merge.Full = told 11 0
+
+abbrev pub marksTold : MarksAnswer → Told
+marksTold (marks.Marked v) = told 0 v
+marksTold marks.WrongLength = told 1 0
+marksTold marks.SchemaBroken = told 2 0
+marksTold marks.TableBroken = told 3 0
+
+abbrev pub walkTold : WalkAnswer → Told
+walkTold (walk.Given v) = told 0 v
+walkTold walk.End = told 0 0
+walkTold walk.WrongLength = told 1 0
+walkTold walk.SchemaBroken = told 2 0
+walkTold walk.TableBroken = told 3 0
+
+abbrev pub insertionTold : InsertionAnswer → Told
+insertionTold (insertion.Inserted v) = told 0 v
+insertionTold insertion.WrongLength = told 1 0
+insertionTold insertion.SchemaBroken = told 2 0
+insertionTold insertion.TableBroken = told 3 0
+insertionTold insertion.NoRelation = told 5 0
+insertionTold insertion.BadValues = told 7 0
+insertionTold insertion.TargetHidden = told 8 0
+insertionTold insertion.KeyTaken = told 9 0
+insertionTold insertion.Full = told 11 0
+insertionTold insertion.ClockSpent = told 12 0
+insertionTold insertion.FlagSpent = told 13 0
+
+abbrev pub updateTold : UpdateAnswer → Told
+updateTold update.Updated = told 0 0
+updateTold update.WrongLength = told 1 0
+updateTold update.SchemaBroken = told 2 0
+updateTold update.TableBroken = told 3 0
+updateTold update.NotShown = told 6 0
+updateTold update.BadValue = told 7 0
+updateTold update.TargetHidden = told 8 0
+updateTold update.KeyTaken = told 9 0
+updateTold update.ClockSpent = told 12 0
+updateTold update.FlagSpent = told 13 0
+
+abbrev pub deletionTold : DeletionAnswer → Told
+deletionTold deletion.Deleted = told 0 0
+deletionTold deletion.WrongLength = told 1 0
+deletionTold deletion.SchemaBroken = told 2 0
+deletionTold deletion.TableBroken = told 3 0
+deletionTold deletion.NotShown = told 6 0
+deletionTold deletion.Referenced = told 10 0
+deletionTold deletion.FlagSpent = told 13 0

@@ -1,0 +1,14 @@
+pub mod Layout
+pub mod Lists
+pub mod Schemas
+pub mod Records
+pub mod Tables
+pub mod WellFormed
+pub mod Valid
+pub mod Shown
+pub mod Merge
+pub mod Edits
+pub mod Calls
+pub mod Runs
+pub mod Demand
+pub mod Cases
