@@ -1,0 +1,60 @@
+-- Records of distinct keys are settled by their members: any two listings of them are one list in order.
+-- Assumes nothing.
+use Prim.Native.Nat.{ℕ, suc, _≤_, _<_}
+use mathlib.Core.Path.{_≡_, refl, sym, _∙_, ap}
+use mathlib.Core.Logic.{_⊎_, inl, inr}
+use mathlib.Core.Bool.{Bool, true, false, _||_}
+use mathlib.Core.List.{List, [], _∷_, List·Memᴰ·head, List·Memᴰ·tail}
+use mathlib.Core.Option.{Option, none, some}
+use native.Mathlib.Omega.{arith}
+use lib.Dec.{eqb}
+use borrow.Author.Tests.{eqb-false, eq-eqb, ne-eqb}
+use Rattle.crdt.specs.Cells.{Cell, joinOpt}
+use Rattle.crdt.proofs.Tests.{test, clash}
+use Rattle.model.specs.Lists.{some-of}
+use Rattle.model.specs.Records.{Rec, has, insert, inOrder, Rising, Distinct, own, at}
+use Rattle.laws.proofs.Join.{opt-none, own-self, own-other, ext, at-below}
+use Rattle.laws.proofs.Lists.{_∈_}
+use Rattle.laws.proofs.Shown.{has-in, in-has}
+use Rattle.laws.proofs.Order.{isSome, has-at, at-order, order-rising}
+
+pub absent : (s : List Rec) (k : ℕ) → has s k ≡ false → at k s ≡ none
+unfolding isSome
+absent s k h = go (at k s) (sym (has-at s k) ∙ h)
+  where
+    go : (o : Option Cell) → isSome o ≡ false → o ≡ none
+    go none e = refl
+    go (some c) e = clash refl e
+
+pub at-member : (s : List Rec) (x : Rec) → Distinct s → x ∈ s → at (x .key) s ≡ some (x .cell)
+unfolding at joinOpt
+at-member (y ∷ ys) x d (List·Memᴰ·head e) = rw e (cc (own-self y, absent ys (y .key) (d .0)))
+at-member (y ∷ ys) x d (List·Memᴰ·tail m) =
+    let n : x .key ≡ y .key → ⊥ = λ e. clash (in-has ys x (y .key) m e) (d .0) in
+    cc (own-other (x .key) y n, at-member ys x (d .1) m)
+
+pub at-key : (s : List Rec) (x : Rec) (k : ℕ) → Distinct s → x ∈ s → x .key ≡ k → at k s ≡ some (x .cell)
+at-key s x k d m e = rw e at (at-member s x d m)
+
+pub same-order : (s t : List Rec) → Distinct s → Distinct t → ((x : Rec) → x ∈ s → x ∈ t) → ((x : Rec) → x ∈ t → x ∈ s) → inOrder s ≡ inOrder t
+same-order s t ds dt f g = ext 0 _ _ (order-rising s) (order-rising t) (λ k. at-order k s ∙ go k (test (has s k)) (test (has t k)) ∙ sym (at-order k t))
+  where
+    go : (k : ℕ) → (has s k ≡ true) ⊎ (has s k ≡ false) → (has t k ≡ true) ⊎ (has t k ≡ false) → at k s ≡ at k t
+    go k (inl p) q = let r = has-in s k p in rw (← (r .2)) (at-member s (r .0) ds (r .1) ∙ sym (at-member t (r .0) dt (f (r .0) (r .1))))
+    go k (inr p) (inl q) = let r = has-in t k q in clash (in-has s (r .0) k (g (r .0) (r .1)) (r .2)) p
+    go k (inr p) (inr q) = absent s k p ∙ sym (absent t k q)
+
+-- records in order are their own listing in order
+pub rising-distinct : (b : ℕ) (s : List Rec) → Rising b s → Distinct s
+unfolding isSome
+rising-distinct b [] r = tt
+rising-distinct b (x ∷ xs) r =
+    let l : x .key < suc (x .key) = omega arith in
+    (has-at xs (x .key) ∙ rw (at-below (x .key) (suc (x .key)) xs l (r .1)), rising-distinct (suc (x .key)) xs (r .1))
+
+pub order-rising-same : (s : List Rec) → Rising 0 s → inOrder s ≡ s
+order-rising-same s r = ext 0 _ _ (order-rising s) r (λ k. at-order k s)
+
+-- so what chains in order read, and that has the same members, is the listing in order
+pub read-in-order : (s t : List Rec) → Distinct s → Rising 0 t → ((x : Rec) → x ∈ s → x ∈ t) → ((x : Rec) → x ∈ t → x ∈ s) → t ≡ inOrder s
+read-in-order s t ds rt f g = sym (order-rising-same t rt) ∙ same-order t s (rising-distinct 0 t rt) ds g f
