@@ -5,4 +5,7 @@ pub mod Shown
 pub mod Members
 pub mod Merge
 pub mod Valid
+pub mod Checks
+pub mod Fields
+pub mod Drafts
 pub mod Total

@@ -9,15 +9,15 @@ use Rattle.crdt.specs.Cells.{upTo, joinReg, joinRegs, joinCell, joinOpt}
 use Rattle.model.specs.Layout.{word, block, relations, fieldCount, kindAt, maskAt, base, capacityOf, replicaAt, clockAt, usedAt, firstAt, nextAt, relationAt, labelAt, flagAt, valueAt, stampAt}
 use Rattle.model.specs.Lists.{each, any, from, listed, only, some-of, all-of, times, lowest}
 use Rattle.model.specs.Schemas.{blockRule, emptyBlock, broken, relationOf, schemaOf, relationNumbered}
-use Rattle.model.specs.Records.{has, own, at, insert, inOrder, join, leastAbove, positionFrom}
+use Rattle.model.specs.Records.{has, own, at, insert, inOrder, join, distinct, leastAbove, positionFrom}
 use Rattle.model.specs.Tables.{recordOf, decode, follower, encodeRecord, encodeRecords, encodeHeader, encode, contents}
 use Rattle.model.specs.WellFormed.{headerRules, firstsRule, emptyAbove, fieldRule, recordRules, countersRule, chainFrom, chainOf, chainStep, rises, chainsRise, onChain, restZero, wellFormed}
 use Rattle.model.specs.Shown.{described, stamped, complete, leads, targets, references, equalOn, conflictOn, conflict, live, reached, hop, standing, beaten, kept, grounded, settled, shown}
 use Rattle.model.specs.Merge.{joinedWith, mergedRecords, merged, tooMany}
 use Rattle.model.specs.Edits.{deltaOf, editedBy, newLabel, flagOf, flagOnly, odd, redoing, spent, supported, valuesRule, newRecord, insertion, recordAt, registerAt, withRegister, leading, updateRedoes, updateConflict, update, deletionRedoes, deletion}
 use Rattle.model.specs.Calls.{schemaLength, tableLength, deltaLength, marksLength, badIndex, schemaNumber, tableNumber, startNumber, startTable, valuesNumber, valuesPart, mergeNumber, mergeTable, marksOf, marksNumber, marksCount, marksMarks, marked, placeKey, walkNumber, walkGiven, walkPlace, editNumber, editTable, editDelta, insertionOf, insertionNumber, insertionLabel, insertionTable, insertionDelta, updateOf, updateNumber, updateTable, updateDelta, deletionOf, deletionNumber, deletionTable, deletionDelta, entryAt, walked, tableWalked, shownList}
-use Rattle.model.specs.Cases.{herd, table, sameWords, sameEntries, lists, holds, allHold}
+use Rattle.model.specs.Cases.{pad, herd, header, row, table, sameWords, sameEntries, lists, holds, allHold}
 
 pub cases-hold : allHold ≡ true
-unfolding ones onesIn isLabel labelWithin deleted redone upTo joinReg joinRegs joinCell joinOpt word block relations fieldCount kindAt maskAt base capacityOf replicaAt clockAt usedAt firstAt nextAt relationAt labelAt flagAt valueAt stampAt each any from listed only some-of all-of times lowest blockRule emptyBlock broken relationOf schemaOf relationNumbered has own at insert inOrder join leastAbove positionFrom recordOf decode follower encodeRecord encodeRecords encodeHeader encode contents headerRules firstsRule emptyAbove fieldRule recordRules countersRule chainFrom chainOf chainStep rises chainsRise onChain restZero wellFormed described stamped complete leads targets references equalOn conflictOn conflict live reached hop standing beaten kept grounded settled shown joinedWith mergedRecords merged tooMany deltaOf editedBy newLabel flagOf flagOnly odd redoing spent supported valuesRule newRecord insertion recordAt registerAt withRegister leading updateRedoes updateConflict update deletionRedoes deletion schemaLength tableLength deltaLength marksLength badIndex schemaNumber tableNumber startNumber startTable valuesNumber valuesPart mergeNumber mergeTable marksOf marksNumber marksCount marksMarks marked placeKey walkNumber walkGiven walkPlace editNumber editTable editDelta insertionOf insertionNumber insertionLabel insertionTable insertionDelta updateOf updateNumber updateTable updateDelta deletionOf deletionNumber deletionTable deletionDelta entryAt walked tableWalked shownList herd table sameWords sameEntries lists holds allHold
+unfolding ones onesIn isLabel labelWithin deleted redone upTo joinReg joinRegs joinCell joinOpt word block relations fieldCount kindAt maskAt base capacityOf replicaAt clockAt usedAt firstAt nextAt relationAt labelAt flagAt valueAt stampAt each any from listed only some-of all-of times lowest blockRule emptyBlock broken relationOf schemaOf relationNumbered has own at insert inOrder join distinct leastAbove positionFrom recordOf decode follower encodeRecord encodeRecords encodeHeader encode contents headerRules firstsRule emptyAbove fieldRule recordRules countersRule chainFrom chainOf chainStep rises chainsRise onChain restZero wellFormed described stamped complete leads targets references equalOn conflictOn conflict live reached hop standing beaten kept grounded settled shown joinedWith mergedRecords merged tooMany deltaOf editedBy newLabel flagOf flagOnly odd redoing spent supported valuesRule newRecord insertion recordAt registerAt withRegister leading updateRedoes updateConflict update deletionRedoes deletion schemaLength tableLength deltaLength marksLength badIndex schemaNumber tableNumber startNumber startTable valuesNumber valuesPart mergeNumber mergeTable marksOf marksNumber marksCount marksMarks marked placeKey walkNumber walkGiven walkPlace editNumber editTable editDelta insertionOf insertionNumber insertionLabel insertionTable insertionDelta updateOf updateNumber updateTable updateDelta deletionOf deletionNumber deletionTable deletionDelta entryAt walked tableWalked shownList pad herd header row table sameWords sameEntries lists holds allHold
 cases-hold = refl

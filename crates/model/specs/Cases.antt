@@ -12,7 +12,7 @@ use Rattle.model.specs.Lists.{all-of}
 use Rattle.model.specs.Calls.{schemaNumber, tableNumber, marksNumber, marksCount, marksMarks, Entry, shownList, deletionNumber, deletionTable, deletionDelta}
 
 -- A list filled up with zeros to n words.
-pad : ℕ → List ℕ → List ℕ
+unfoldable pub pad : ℕ → List ℕ → List ℕ
 pad n l = l ++ replicate (n - length l) 0
 
 -- A block of a schema: the kinds and the first key mask.
@@ -26,12 +26,12 @@ unfolding pad relation
 herd = 3 ∷ (relation (1 ∷ []) 1 ++ (relation (1 ∷ 17 ∷ []) 1 ++ (relation (34 ∷ 1 ∷ []) 0 ++ replicate ((mostRelations - 3) * blockWords) 0)))
 
 -- A table's header of replica 1: clock, used, and the first records of relations 1, 2, 3.
-header : ℕ → ℕ → List ℕ → List ℕ
+unfoldable pub header : ℕ → ℕ → List ℕ → List ℕ
 unfolding pad
 header clock used firsts = 1 ∷ clock ∷ used ∷ 0 ∷ (pad mostRelations firsts ++ replicate 4 0)
 
 -- A record's words: next, relation, label, flag, then values and stamps.
-row : ℕ → ℕ → ℕ → ℕ → List ℕ → List ℕ → List ℕ
+unfoldable pub row : ℕ → ℕ → ℕ → ℕ → List ℕ → List ℕ → List ℕ
 unfolding pad
 row next r l flag values stamps = next ∷ r ∷ l ∷ flag ∷ (pad fields values ++ pad fields stamps)
 

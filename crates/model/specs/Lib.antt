@@ -12,3 +12,4 @@ pub mod Calls
 pub mod Runs
 pub mod Demand
 pub mod Cases
+pub mod Examples

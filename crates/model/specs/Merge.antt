@@ -1,6 +1,6 @@
 -- Merge on table values (document 01, "Merge and edits").
 -- Assumes nothing.
-use Prim.Native.Nat.{ℕ, max}
+use Prim.Native.Nat.{ℕ, max, _+_}
 use mathlib.Core.Bool.{Bool, not}
 use mathlib.Core.List.{List, _++_, map}
 use mathlib.Core.Option.{Option, none, some}

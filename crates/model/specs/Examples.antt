@@ -1,0 +1,177 @@
+-- An example run (document 01, "Runs"), as data: calls on four tables, the answer of each, and what the tables then hold and show.
+-- Assumes nothing.
+use Prim.Native.Nat.{ℕ, _+_, _*_}
+use mathlib.Core.Bool.{Bool, true, false, cond, _&&_, _||_, not}
+use mathlib.Core.List.{List, [], _∷_, _++_, map}
+use mathlib.Core.Option.{Option, none, some}
+use lib.Dec.{eqb, leb}
+use lib.ListN.{length, replicate}
+use Rattle.crdt.specs.Labels.{labelOf}
+use Rattle.crdt.specs.Cells.{Reg, Cell}
+use Rattle.model.specs.Layout.{headerWords, recordWords, deltaWords, usedAt}
+use Rattle.model.specs.Lists.{some-of, all-of}
+use Rattle.model.specs.Records.{Rec, inOrder}
+use Rattle.model.specs.Tables.{decode, Contents, contents}
+use Rattle.model.specs.Calls.{tableNumber, startNumber, mergeNumber, insertionNumber, updateNumber, deletionNumber, Entry, shownList}
+use Rattle.model.specs.Runs.{Source, copy, delta, words, Call, start, merge, insertion, update, deletion, Moment, ago, otherWords, next, history, begun}
+use Rattle.model.specs.Cases.{herd, header, row, sameWords, sameEntries}
+
+-- The answer of a call.
+unfoldable pub answerOf : Moment → List Moment → Call → ℕ
+answerOf first h (start i r) = startNumber (ago first h 0 .fleet i) r
+answerOf first h (merge i s o) = mergeNumber s (ago first h 0 .fleet i) (otherWords first h o)
+answerOf first h (insertion i s d r vs) = insertionNumber s (ago first h 0 .fleet i) d r vs
+answerOf first h (update i s d j f new) = updateNumber s (ago first h 0 .fleet i) d j f new
+answerOf first h (deletion i s d j) = deletionNumber s (ago first h 0 .fleet i) d j
+
+-- The answers of a list of calls; of both lists the last one stands first.
+unfoldable pub answers : Moment → List Call → List ℕ
+answers first [] = []
+answers first (c ∷ cs) = answerOf first (history first cs) c ∷ answers first cs
+
+-- Words of capacity N before the start.
+blank : ℕ → List ℕ
+blank n = replicate (headerWords + recordWords * n) 7
+
+-- Four tables, tables 0 and 2 with one replica number: capacities 4, 4, 3 and 2.
+unfoldable pub first : Moment
+unfolding blank
+first = begun (λ i. blank (cond (eqb i 3) 2 (cond (eqb i 2) 3 4))) (λ i. cond (eqb i 1) 2 1)
+
+-- The delta buffer, "all zero when a program first makes it".
+buffer : List ℕ
+buffer = replicate deltaWords 0
+
+-- A schema that isn't broken and has one relation only.
+unfoldable pub other : List ℕ
+other = 1 ∷ 1 ∷ 1 ∷ (replicate 7 0 ++ (1 ∷ replicate 86 0))
+
+-- The group 1.1, the cow 2.2 with tag 40, the cow 3.2 with tag 41.
+abbrev group : ℕ
+group = labelOf 1 1
+
+abbrev cow : ℕ
+cow = labelOf 2 2
+
+abbrev heifer : ℕ
+heifer = labelOf 3 2
+
+-- The calls, the last one first.
+unfoldable pub calls : List Call
+unfolding buffer
+calls =
+    -- an insertion lent another schema, under which the table is not well-formed
+    insertion 0 other buffer 1 (5 ∷ [])
+    -- table 1 as it stands into table 0; into table 3, which has no room
+    ∷ merge 0 herd (copy 0 1)
+    ∷ merge 3 herd (copy 0 1)
+    -- into table 2 table 1 as it stood before the update
+    ∷ merge 2 herd (copy 4 1)
+    -- the delta of the update, before its insertion, and once more
+    ∷ merge 2 herd (delta 2)
+    ∷ merge 2 herd (delta 1)
+    -- a start later on
+    ∷ start 2 1
+    -- the heifer's tag becomes 42
+    ∷ update 1 herd buffer 3 1 42
+    -- the cow is deleted; the group, which is odd and which the heifer references, is redone
+    ∷ deletion 1 herd buffer 2
+    -- table 0 as it stands into table 1: the group's flag becomes 1
+    ∷ merge 1 herd (copy 0 0)
+    -- the group is deleted in table 0
+    ∷ deletion 0 herd buffer 1
+    -- two cows in the group
+    ∷ insertion 1 herd buffer 2 (41 ∷ group ∷ [])
+    ∷ insertion 1 herd buffer 2 (40 ∷ group ∷ [])
+    -- the delta of the group into table 1
+    ∷ merge 1 herd (delta 0)
+    -- the group
+    ∷ insertion 0 herd buffer 1 (12 ∷ []) ∷ []
+
+unfoldable pub expected : List ℕ
+expected = 3 ∷ 0 ∷ 11 ∷ 0 ∷ 0 ∷ 0 ∷ 0 ∷ 0 ∷ 0 ∷ 0 ∷ 0 ∷ 0 ∷ 0 ∷ 0 ∷ 0 ∷ []
+
+unfoldable pub sameRegs : List Reg → List Reg → Bool
+sameRegs [] [] = true
+sameRegs [] (y ∷ ys) = false
+sameRegs (x ∷ xs) [] = false
+sameRegs (x ∷ xs) (y ∷ ys) = eqb (x .value) (y .value) && eqb (x .stamp) (y .stamp) && sameRegs xs ys
+
+unfoldable pub sameRecs : List Rec → List Rec → Bool
+sameRecs [] [] = true
+sameRecs [] (y ∷ ys) = false
+sameRecs (x ∷ xs) [] = false
+sameRecs (x ∷ xs) (y ∷ ys) = eqb (x .key) (y .key) && eqb (x .cell .flag) (y .cell .flag) && sameRegs (x .cell .regs) (y .cell .regs) && sameRecs xs ys
+
+-- Each number of one list is in the other.
+unfoldable pub within : List ℕ → List ℕ → Bool
+within l m = all-of (λ n. some-of (λ k. eqb n k) m) l
+
+-- The list shown at the end: the group, and the heifer with her new tag. The cow is hidden.
+unfoldable pub listedAtEnd : List Entry
+listedAtEnd =
+    record { relation = 1; label = group; values = 12 ∷ [] }
+    ∷ record { relation = 2; label = heifer; values = 42 ∷ group ∷ [] } ∷ []
+
+-- Two tables took in the same edits, in different order, hold the same records under the same clock, and show the same list, of two records of three.
+unfoldable pub agree : Moment → ℕ → ℕ → Bool
+agree m i j =
+    within (m .took i) (m .took j) && within (m .took j) (m .took i) && not (sameWords (m .took i) (m .took j))
+    && sameRecs (contents (m .fleet i) .records) (contents (m .fleet j) .records)
+    && eqb (contents (m .fleet i) .clock) (contents (m .fleet j) .clock)
+    && sameEntries (shownList herd (m .fleet i)) listedAtEnd && sameEntries (shownList herd (m .fleet j)) listedAtEnd
+    && eqb (usedAt (m .fleet i)) 3 && eqb (usedAt (m .fleet j)) 3
+    && eqb (tableNumber herd (m .fleet i)) 0 && eqb (tableNumber herd (m .fleet j)) 0
+
+-- The run does what it should: every answer, and tables 0, 1 and 2 agree.
+unfoldable pub runs : Bool
+runs =
+    let m = ago first (history first calls) 0 in
+    sameWords (answers first calls) expected && agree m 0 1 && agree m 1 2
+
+-- A second run: positions that are not in list order. Tables 0 and 1 insert a cow each and merge; table 1 then inserts a group, and table 2 merges
+-- table 1. Of the calls the last one stands first.
+unfoldable pub crossing : List Call
+unfolding buffer
+crossing =
+    merge 2 herd (copy 0 1)
+    ∷ insertion 1 herd buffer 1 (12 ∷ [])
+    ∷ merge 1 herd (copy 0 0)
+    ∷ insertion 0 herd buffer 2 (41 ∷ 0 ∷ [])
+    ∷ insertion 1 herd buffer 2 (40 ∷ 0 ∷ []) ∷ []
+
+-- The cows 1.1 and 1.2, and the group 2.2.
+abbrev early : ℕ
+early = labelOf 1 1
+
+abbrev late : ℕ
+late = labelOf 1 2
+
+abbrev herdGroup : ℕ
+herdGroup = labelOf 2 2
+
+-- Table 1 keeps its cow at position 1 and links by label; table 2 has its records added in list order.
+unfoldable pub crosses : Bool
+unfolding header row
+crosses =
+    let m = ago first (history first crossing) 0 in
+    sameWords (answers first crossing) (0 ∷ 0 ∷ 0 ∷ 0 ∷ 0 ∷ [])
+    && sameWords (m .fleet 1)
+    (2 ∷ 2 ∷ 3 ∷ 0 ∷ 3 ∷ 2 ∷ (replicate 10 0
+    ++ (row 0 2 late 0 (40 ∷ 0 ∷ []) (late ∷ late ∷ []) ++ (row 1 2 early 0 (41 ∷ 0 ∷ []) (early ∷ early ∷ []) ++ (row 0 1 herdGroup 0 (12 ∷ []) (herdGroup ∷ []) ++ replicate recordWords 0)))))
+    && sameWords (m .fleet 2)
+    (header 2 3 (1 ∷ 2 ∷ [])
+    ++ (row 0 1 herdGroup 0 (12 ∷ []) (herdGroup ∷ []) ++ (row 3 2 early 0 (41 ∷ 0 ∷ []) (early ∷ early ∷ []) ++ row 0 2 late 0 (40 ∷ 0 ∷ []) (late ∷ late ∷ []))))
+
+-- A chain of abort references, for which step 2 takes two hops: relation 1 references itself by abort, and only the first of three records is even.
+unfoldable pub chainSchema : List ℕ
+chainSchema = 1 ∷ 1 ∷ 17 ∷ replicate 94 0
+
+unfoldable pub hops : Bool
+unfolding header row
+hops =
+    let a : ℕ = labelOf 1 1 in
+    let b : ℕ = labelOf 2 1 in
+    let c : ℕ = labelOf 3 1 in
+    let t = header 3 3 (1 ∷ []) ++ (row 2 1 a 1 (0 ∷ []) (a ∷ []) ++ (row 3 1 b 1 (a ∷ []) (b ∷ []) ++ row 0 1 c 0 (b ∷ []) (c ∷ []))) in
+    eqb (tableNumber chainSchema t) 0 && eqb (length (shownList chainSchema t)) 3

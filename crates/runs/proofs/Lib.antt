@@ -1,0 +1,5 @@
+pub mod Tables
+pub mod Laws
+pub mod Edits
+pub mod Runs
+pub mod Demand
