@@ -22,7 +22,7 @@ use Rattle.model.specs.Tables.{Table}
 use Rattle.model.specs.Shown.{described, rest, leads, targets, standing, kept, shown}
 use Rattle.model.specs.Merge.{joinedWith, mergedRecords}
 use Rattle.model.specs.Edits.{Edit, deltaOf, newLabel, flagIn, flagOf, flagOnly, odd, redoing, spent, supported, valueRule, valuesRule, newRecord, insertion, recordAt, registerAt, withRegister, leading, updateRedoes, update, deletionRedoes, deletion}
-use Rattle.laws.proofs.Lists.{_∈_, only-in, all-in, in-all, only-length}
+use Rattle.laws.proofs.Lists.{_∈_, only-in, in-some, all-in, in-all, only-length}
 use Rattle.laws.proofs.Join.{met, insert-length, insert-low, insert-same, insert-high}
 use Rattle.laws.proofs.Shown.{has-in, in-has, settled-part, kept-in, standing-in}
 use Rattle.laws.proofs.Order.{has-at, at-order, order-rising}
@@ -268,6 +268,18 @@ module _ {w : ℕ} {σ : List Relation} (narrow : (r : ℕ) → length (relation
   stamp-counter : counterOf (newLabel v) ≡ v .clock + 1
   unfolding newLabel
   stamp-counter = new-counter (v .clock + 1) (v .replica) (good .replica)
+
+  -- what an accepted edit knows of the flags to be redone, and of the new label
+  pub flags-below : (ks : List ℕ) → spent (inOrder (v .records)) ks ≡ false → (k : ℕ) → k ∈ ks → flagOf (inOrder (v .records)) k < largestFlag
+  unfolding spent c
+  flags-below ks h k m = go (test (eqb (flagOf (inOrder (v .records)) k) largestFlag))
+    where
+      go : (eqb (flagOf (inOrder (v .records)) k) largestFlag ≡ true) ⊎ (eqb (flagOf (inOrder (v .records)) k) largestFlag ≡ false) → flagOf (inOrder (v .records)) k < largestFlag
+      go (inl p) = clash (in-some _ k ks m p) h
+      go (inr p) = let n : flagOf (inOrder (v .records)) k ≡ largestFlag → ⊥ = eqb-false _ _ p in omega (arith, flag-held k)
+
+  pub label-new : eqb (v .clock) largestCounter ≡ false → isLabel (newLabel v) ≡ true
+  label-new h = stamp-label (raised h)
 
   -- the new record of an insertion
   new-valid : (r : ℕ) (vs : List ℕ) → 1 ≤ r → r ≤ length σ → valuesRule (relationNumbered σ r .kinds) vs ≡ true → all-of (has (shown σ c)) (targets σ isReference (newRecord w v r vs)) ≡ true

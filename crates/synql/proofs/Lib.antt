@@ -1,0 +1,4 @@
+pub mod Primitives
+pub mod State
+pub mod Mutators
+pub mod Steps

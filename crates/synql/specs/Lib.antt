@@ -1,0 +1,2 @@
+pub mod Synql
+pub mod Database
