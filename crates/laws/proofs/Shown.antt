@@ -3,7 +3,7 @@
 use Prim.Native.Nat.{ℕ, zero, suc, _≤_, _<_, _-_, _/_, _%_}
 use mathlib.Core.Path.{_≡_, refl, sym, ap}
 use mathlib.Core.Bool.{Bool, true, false, _&&_, _||_, not}
-use mathlib.Core.List.{List, [], _∷_, Memᴰ·cast}
+use mathlib.Core.List.{List, [], _∷_, _++_, Memᴰ·cast, Memᴰ·append-left, List·Memᴰ·append-cases, List·Memᴰ·eq-of-singleton}
 use mathlib.Core.Logic.{_⊎_, inl, inr}
 use native.Mathlib.Omega.{arith}
 use lib.Dec.{eqb, ltb}
@@ -183,6 +183,16 @@ module _ (σ : List Relation) where
           let r = some-in _ s e in
           clash (and-right (ltb (r .0 .key) (x .key)) _ (r .2)) (f (r .0) (r .1) (ltb-true _ _ (and-left (ltb (r .0 .key) (x .key)) _ (r .2))))
 
+  -- a record with a larger key than all drops nobody
+  pub largest-drops-none : (s : List Rec) (e : Rec) → ((y : Rec) → y ∈ s → y .key < e .key) → (x : Rec) → x ∈ kept σ s → x ∈ kept σ (s ++ (e ∷ []))
+  largest-drops-none s e above x m =
+      kept-all (s ++ (e ∷ [])) x (Memᴰ·append-left (e ∷ []) (kept-in s x m))
+      (λ y k l. older y l (List·Memᴰ·append-cases s k))
+    where
+      older : (y : Rec) → y .key < x .key → y ∈ s ⊎ y ∈ (e ∷ []) → conflict σ y x ≡ false
+      older y l (inl k) = kept-unbeaten s x y m k l
+      older y l (inr k) = let q : y ≡ e = List·Memᴰ·eq-of-singleton k in absurd (omega (arith, above x (kept-in s x m), ap (λ (z : Rec). z .key) q))
+
   -- the shown list
   value-ref : (k v w : ℕ) → (eqb v w && not (isReference k && eqb v 0)) ≡ (eqb w v && not (isReference k && eqb w 0))
   value-ref k v w = go (test (eqb v w)) (test (eqb w v))
@@ -213,24 +223,21 @@ module _ (σ : List Relation) where
       let r = and-right (eqb (relation x) (relation y)) _ h in
       and-both _ _ (eq-eqb _ _ (sym e)) (cc (r, on-sym (described σ x .key1) x y d, on-sym (described σ x .key2) x y d))
 
-  -- no key that is free of empty references occurs twice
-  pub shown-keys : (c : List Rec) (x y : Rec) → x ∈ shown σ c → y ∈ shown σ c → conflict σ x y ≡ true → x .key ≡ y .key
-  unfolding shown
-  shown-keys c x y hx hy h = go (tri (x .key) (y .key))
+  -- no two that step 3 keeps conflict
+  pub kept-apart : (s : List Rec) (x y : Rec) → x ∈ kept σ s → y ∈ kept σ s → conflict σ x y ≡ true → x .key ≡ y .key
+  kept-apart s x y wx wy h = go (tri (x .key) (y .key))
     where
-      s : List Rec
-      s = standing σ c
-
-      wx : x ∈ kept σ s
-      wx = settled-part (kept σ s) x hx
-
-      wy : y ∈ kept σ s
-      wy = settled-part (kept σ s) y hy
-
       go : Tri (x .key) (y .key) → x .key ≡ y .key
       go (low l) = clash h (kept-unbeaten s y x wy (kept-in s x wx) l)
       go (same e) = e
       go (high l) = clash (conflict-sym x y h) (kept-unbeaten s x y wx (kept-in s y wy) l)
+
+  -- no key that is free of empty references occurs twice
+  pub shown-keys : (c : List Rec) (x y : Rec) → x ∈ shown σ c → y ∈ shown σ c → conflict σ x y ≡ true → x .key ≡ y .key
+  unfolding shown
+  shown-keys c x y hx hy h =
+      let s = kept σ (standing σ c) in
+      kept-apart (standing σ c) x y (settled-part s x hx) (settled-part s y hy) h
 
   -- each nonempty reference leads to a shown record
   pub shown-references : (c : List Rec) → Closed (shown σ c)

@@ -2,7 +2,7 @@
 -- Assumes nothing.
 use Prim.Native.Nat.{ℕ, zero, suc, _+_, _*_, _-_, _/_, _%_, _≤_, _<_}
 use mathlib.Core.Path.{_≡_, refl, sym, _∙_, ap}
-use mathlib.Core.Logic.{_⊎_, inl, inr}
+use mathlib.Core.Logic.{_⊎_, inl, inr, _↔_}
 use mathlib.Core.Bool.{Bool, true, false, cond, _||_, _&&_, not}
 use mathlib.Core.List.{List, [], _∷_, List·Memᴰ·not-nil}
 use native.Mathlib.Omega.{arith}
@@ -17,6 +17,7 @@ use Rattle.model.specs.Schemas.{Relation, broken, noRelation, relationOf, schem
 use Rattle.model.specs.Records.{Rec, inOrder, join, Distinct}
 use Rattle.model.specs.Tables.{Table, decode, encode, contents}
 use Rattle.model.specs.WellFormed.{wellFormed}
+use Rattle.model.specs.Valid.{valid}
 use Rattle.model.specs.Merge.{mergedRecords, merged, tooMany}
 use Rattle.model.specs.Edits.{Edit, deltaOf, editedBy}
 use Rattle.model.specs.Calls.{schemaLength, tableLength, deltaLength, done, schemaNumber, tableNumber, startNumber, startTable, mergeNumber, mergeTable, editNumber, editTable, editDelta}
@@ -71,6 +72,10 @@ valid-good s v l b f =
 
 pub valid-value : (s : List ℕ) (v : Table) → Valid fields (schemaOf s) v → decode (encode v) ≡ v
 valid-value s v f = decode-encode (schemaOf s) v (true-valid fields (schemaOf s) v f)
+
+-- a slice is well-formed exactly if its value is valid and it is that value's encoding
+pub formed-exactly : (s t : List ℕ) → broken s ≡ false → tableLength t ≡ true → (wellFormed s t ≡ true) ↔ ((valid fields (schemaOf s) (decode t) ≡ true) × (encode (decode t) ≡ t))
+formed-exactly s t b l = (λ w. (formed-valid s t b l w, formed-encoded s t b l w), λ v. rw (v .1) at (encode-formed s (decode t) b (v .0)))
 
 -- a relation of a schema that isn't broken has at most eight fields
 pub narrow : (s : List ℕ) → broken s ≡ false → (r : ℕ) → length (relationNumbered (schemaOf s) r .kinds) ≤ fields
