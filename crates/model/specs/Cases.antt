@@ -157,3 +157,32 @@ holds (deletes t i t′ d m l) =
 -- The schema isn't broken, and every case holds.
 unfoldable pub allHold : Bool
 allHold = eqb (schemaNumber herd) 0 && all-of holds table
+
+-- The same case, as a test.
+unfoldable pub sameReg : Reg → Reg → Bool
+sameReg a b = eqb (a .value) (b .value) && eqb (a .stamp) (b .stamp)
+
+unfoldable pub sameCase : Case → Case → Bool
+sameCase (registers a b c) (registers a′ b′ c′) = sameReg a a′ && sameReg b b′ && sameReg c c′
+sameCase (registers a b c) (flags a′ b′ c′) = false
+sameCase (registers a b c) (shows t′ m′ l′) = false
+sameCase (registers a b c) (deletes t′ i′ u′ d′ m′ l′) = false
+sameCase (flags a b c) (registers a′ b′ c′) = false
+sameCase (flags a b c) (flags a′ b′ c′) = eqb a a′ && eqb b b′ && eqb c c′
+sameCase (flags a b c) (shows t′ m′ l′) = false
+sameCase (flags a b c) (deletes t′ i′ u′ d′ m′ l′) = false
+sameCase (shows t m l) (registers a′ b′ c′) = false
+sameCase (shows t m l) (flags a′ b′ c′) = false
+sameCase (shows t m l) (shows t′ m′ l′) = sameWords t t′ && sameWords m m′ && sameEntries l l′
+sameCase (shows t m l) (deletes t′ i′ u′ d′ m′ l′) = false
+sameCase (deletes t i u d m l) (registers a′ b′ c′) = false
+sameCase (deletes t i u d m l) (flags a′ b′ c′) = false
+sameCase (deletes t i u d m l) (shows t′ m′ l′) = false
+sameCase (deletes t i u d m l) (deletes t′ i′ u′ d′ m′ l′) =
+    sameWords t t′ && eqb i i′ && sameWords u u′ && sameWords d d′ && sameWords m m′ && sameEntries l l′
+
+unfoldable pub sameCases : List Case → List Case → Bool
+sameCases [] [] = true
+sameCases [] (y ∷ ys) = false
+sameCases (x ∷ xs) [] = false
+sameCases (x ∷ xs) (y ∷ ys) = sameCase x y && sameCases xs ys

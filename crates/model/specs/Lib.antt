@@ -12,4 +12,5 @@ pub mod Calls
 pub mod Runs
 pub mod Demand
 pub mod Cases
+pub mod Second
 pub mod Examples
