@@ -1,0 +1,13 @@
+pub mod Joins
+pub mod Words
+pub mod Flags
+pub mod Positions
+pub mod Changes
+pub mod Standing
+pub mod Indices
+pub mod Beside
+pub mod Insertion
+pub mod Update
+pub mod Deletion
+pub mod Settled
+pub mod Keys

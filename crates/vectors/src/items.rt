@@ -1,0 +1,237 @@
+// One function for each call: it takes the inputs from the stream, makes the call and compares.
+use crate::rows;
+use crate::stream;
+use crate::stream::Cursor;
+use crate::stream::Exit;
+use crate::stream::number;
+use crdt::Label;
+use crdt::Register;
+
+// What an item came to: the told answer, whether everything is as told, and the cursor's fields
+// after the item.
+pub struct Back {
+    pub at: usize,
+    pub words: u64,
+    pub sum: u64,
+    pub answer: u64,
+    pub good: bool,
+}
+
+// Whether the library has the call.
+pub fn runs(call: u64) -> bool {
+    call <= 5
+}
+
+pub fn run(
+    s: &[u8],
+    c: Cursor,
+    call: u64,
+    rows: &[u64],
+    schema: &mut [u64],
+    own: &mut [u64],
+    third: &mut [u64],
+    values: &mut [u64],
+) -> Back {
+    match call {
+        1 => label_of(s, c),
+        2 => register_join(s, c),
+        3 => flag_join(s, c),
+        4 => delete(s, c),
+        5 => redo(s, c),
+        _ => with_slices(s, c, call, rows, schema, own, third, values),
+    }
+}
+
+// The told answer, at an index, against the one that came back.
+fn answered(s: &[u8], at: usize, words: u64, sum: u64, got: u64) -> Back {
+    let answer = number(s, at);
+    Back {
+        at: answer.at,
+        words: words,
+        sum: sum,
+        answer: answer.value,
+        good: answer.value == got,
+    }
+}
+
+// The next told result against the one that came back.
+fn with_result(s: &[u8], back: Back, got: u64) -> Back {
+    let told = number(s, back.at);
+    Back {
+        at: told.at,
+        words: back.words,
+        sum: back.sum,
+        answer: back.answer,
+        good: back.good & (told.value == got),
+    }
+}
+
+fn label_of(s: &[u8], c: Cursor) -> Back {
+    let counter = number(s, c.at);
+    let replica = number(s, counter.at);
+    let label = Label::of(counter.value, replica.value);
+    with_result(s, answered(s, replica.at, c.words, c.sum, 0), label.0)
+}
+
+fn register_join(s: &[u8], c: Cursor) -> Back {
+    let value = number(s, c.at);
+    let stamp = number(s, value.at);
+    let value2 = number(s, stamp.at);
+    let stamp2 = number(s, value2.at);
+    let left = Register {
+        value: value.value,
+        stamp: stamp.value,
+    };
+    let right = Register {
+        value: value2.value,
+        stamp: stamp2.value,
+    };
+    let joined = crdt::join_registers(left, right);
+    let back = answered(s, stamp2.at, c.words, c.sum, 0);
+    with_result(s, with_result(s, back, joined.value), joined.stamp)
+}
+
+fn flag_join(s: &[u8], c: Cursor) -> Back {
+    let left = number(s, c.at);
+    let right = number(s, left.at);
+    let joined = crdt::join_flags(left.value, right.value);
+    with_result(s, answered(s, right.at, c.words, c.sum, 0), joined)
+}
+
+fn delete(s: &[u8], c: Cursor) -> Back {
+    let flag = number(s, c.at);
+    with_result(
+        s,
+        answered(s, flag.at, c.words, c.sum, 0),
+        crdt::delete(flag.value),
+    )
+}
+
+fn redo(s: &[u8], c: Cursor) -> Back {
+    let flag = number(s, c.at);
+    with_result(
+        s,
+        answered(s, flag.at, c.words, c.sum, 0),
+        crdt::redo(flag.value),
+    )
+}
+
+fn load_if(present: u64, s: &[u8], c: Cursor, buffer: &mut [u64]) -> Cursor {
+    if present != 0 {
+        return stream::load(s, c, buffer);
+    }
+    c
+}
+
+// The slices of an item are in the buffers: where each begins in the stream, and the cursor's
+// fields after them.
+struct Inputs {
+    schema: usize,
+    own: usize,
+    third: usize,
+    values: usize,
+    at: usize,
+    words: u64,
+    sum: u64,
+}
+
+fn load_inputs(
+    s: &[u8],
+    c: Cursor,
+    call: u64,
+    rows: &[u64],
+    schema: &mut [u64],
+    own: &mut [u64],
+    third: &mut [u64],
+    values: &mut [u64],
+) -> Inputs {
+    let a = load_if(rows::word(rows, call, rows::SCHEMA), s, c, schema);
+    let b = load_if(rows::word(rows, call, rows::OWN), s, a, own);
+    let d = load_if(rows::word(rows, call, rows::THIRD), s, b, third);
+    let e = load_if(rows::word(rows, call, rows::VALUES), s, d, values);
+    Inputs {
+        schema: c.at,
+        own: a.at,
+        third: b.at,
+        values: d.at,
+        at: e.at,
+        words: e.words,
+        sum: e.sum,
+    }
+}
+
+// What is told of a slice that no call changed: an unchanged one must be the one that was lent.
+fn passed(present: u64, s: &[u8], at: usize, lent: usize, buffer: &[u64]) -> Exit {
+    if present != 0 {
+        let told = stream::told_exit(s, at, lent, buffer);
+        return Exit {
+            at: told.at,
+            changed: told.changed,
+            good: told.changed | told.good,
+        };
+    }
+    Exit {
+        at: at,
+        changed: false,
+        good: true,
+    }
+}
+
+// The rest of an item whose call the library does not have.
+fn rest(s: &[u8], call: u64, rows: &[u64], taken: Inputs, own: &[u64], third: &[u64]) -> Back {
+    let answer = number(
+        s,
+        stream::skip_numbers(s, taken.at, rows::word(rows, call, rows::NUMBERS)),
+    );
+    let at = stream::skip_numbers(s, answer.at, rows::word(rows, call, rows::RESULTS));
+    let x = passed(
+        rows::word(rows, call, rows::OWN_BACK),
+        s,
+        at,
+        taken.own,
+        own,
+    );
+    let y = passed(
+        rows::word(rows, call, rows::THIRD_BACK),
+        s,
+        x.at,
+        taken.third,
+        third,
+    );
+    Back {
+        at: y.at,
+        words: taken.words,
+        sum: taken.sum,
+        answer: answer.value,
+        good: x.good & y.good,
+    }
+}
+
+// Runs an item whose slices are in the buffers.
+fn run_loaded(
+    s: &[u8],
+    call: u64,
+    rows: &[u64],
+    taken: Inputs,
+    schema: &[u64],
+    own: &mut [u64],
+    third: &mut [u64],
+    values: &[u64],
+) -> Back {
+    rest(s, call, rows, taken, own, third)
+}
+
+// Takes the slices of an item, and runs it.
+fn with_slices(
+    s: &[u8],
+    c: Cursor,
+    call: u64,
+    rows: &[u64],
+    schema: &mut [u64],
+    own: &mut [u64],
+    third: &mut [u64],
+    values: &mut [u64],
+) -> Back {
+    let taken = load_inputs(s, c, call, rows, schema, own, third, values);
+    run_loaded(s, call, rows, taken, schema, own, third, values)
+}

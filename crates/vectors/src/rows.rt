@@ -1,0 +1,46 @@
+// The rows of the calls, which the stream's first slice holds: the shape and the name of each.
+use crate::stream;
+use libc::STDOUT_FILENO;
+
+const ROW: u64 = 24;
+
+const NAME: u64 = 8;
+
+const NAME_END: u64 = 24;
+
+// The words of a row: which slices an item is lent, how many numbers it takes and gives, and which
+// slices come back.
+pub const SCHEMA: u64 = 0;
+
+pub const OWN: u64 = 1;
+
+pub const THIRD: u64 = 2;
+
+pub const VALUES: u64 = 3;
+
+pub const NUMBERS: u64 = 4;
+
+pub const RESULTS: u64 = 5;
+
+pub const OWN_BACK: u64 = 6;
+
+pub const THIRD_BACK: u64 = 7;
+
+// A word of the row of a call.
+pub fn word(rows: &[u64], call: u64, k: u64) -> u64 {
+    stream::get(rows, (call % 256 * ROW + k % ROW) as usize)
+}
+
+pub fn print_name(rows: &[u64], call: u64) {
+    for k in NAME..NAME_END {
+        print_letter(word(rows, call, k));
+    }
+}
+
+fn print_letter(letter: u64) {
+    if letter == 0 {
+        return;
+    }
+    let text = [(letter % 256) as u8];
+    io::write_all(STDOUT_FILENO, &text);
+}

@@ -1,0 +1,86 @@
+//! Labels, registers and flags.
+
+pub const LARGEST_COUNTER: u64 = (1 << 40) - 1;
+pub const LARGEST_REPLICA: u64 = 255;
+pub const LARGEST_FLAG: u64 = 65_535;
+pub const NONE: u64 = 0;
+
+/// The label of a counter and a replica; 0 outside the limits.
+pub fn label_of(counter: u64, replica: u64) -> u64 {
+    let counter_fits = 1 <= counter && counter <= LARGEST_COUNTER;
+    let replica_fits = 1 <= replica && replica <= LARGEST_REPLICA;
+    if counter_fits && replica_fits {
+        counter * 256 + replica
+    } else {
+        NONE
+    }
+}
+
+pub fn counter(label: u64) -> u64 {
+    label / 256
+}
+
+pub fn replica(label: u64) -> u64 {
+    label % 256
+}
+
+pub fn is_label(word: u64) -> bool {
+    word != NONE && label_of(counter(word), replica(word)) == word
+}
+
+pub fn is_label_or_none(word: u64) -> bool {
+    word == NONE || is_label(word)
+}
+
+/// A label as counter, point, replica.
+pub fn written(label: u64) -> String {
+    format!("{}.{}", counter(label), replica(label))
+}
+
+#[derive(Clone, Copy, Debug, PartialEq, Eq, Default)]
+pub struct Register {
+    pub value: u64,
+    pub stamp: u64,
+}
+
+/// The larger stamp; with equal stamps the larger value.
+pub fn join_registers(a: Register, b: Register) -> Register {
+    if a.stamp != b.stamp {
+        if a.stamp > b.stamp {
+            a
+        } else {
+            b
+        }
+    } else if a.value > b.value {
+        a
+    } else {
+        b
+    }
+}
+
+pub fn join_flags(a: u64, b: u64) -> u64 {
+    a.max(b)
+}
+
+pub fn is_deleted(flag: u64) -> bool {
+    flag % 2 == 1
+}
+
+/// Adds 1 to an even flag. What is no flag is left as it is.
+pub fn delete(flag: u64) -> u64 {
+    if flag > LARGEST_FLAG || is_deleted(flag) {
+        flag
+    } else {
+        flag + 1
+    }
+}
+
+/// Adds 1 to an odd flag. The calls refuse to redo 65,535, above which there is no flag; it and
+/// what is no flag are left as they are.
+pub fn redo(flag: u64) -> u64 {
+    if flag < LARGEST_FLAG && is_deleted(flag) {
+        flag + 1
+    } else {
+        flag
+    }
+}

@@ -1,0 +1,41 @@
+//! Merge.
+
+use crate::label::{join_flags, join_registers};
+use crate::schema;
+use crate::table::{self, Table};
+use crate::{need, Answer, Refusal};
+
+/// The merge of two decoded tables, with no regard to the capacity.
+pub fn join(own: &Table, other: &Table) -> Table {
+    let mut joined = own.clone();
+    let own_positions = own.positions();
+    joined.clock = own.clock.max(other.clock);
+    for (name, at) in other.positions() {
+        let theirs = &other.records[at];
+        match own_positions.get(&name) {
+            Some(position) => {
+                let ours = &mut joined.records[*position];
+                ours.flag = join_flags(ours.flag, theirs.flag);
+                for (register, their) in ours.registers.iter_mut().zip(&theirs.registers) {
+                    *register = join_registers(*register, *their);
+                }
+            }
+            None => joined.records.push(theirs.clone()),
+        }
+    }
+    joined
+}
+
+pub fn merge(schema: &[u64], own: &mut [u64], other: &[u64]) -> Answer<()> {
+    let lengths = schema.len() == schema::WORDS
+        && table::capacity_of(own.len()).is_some()
+        && table::capacity_of(other.len()).is_some();
+    need(lengths, Refusal::LengthOrIndex)?;
+    let schema = schema::read(schema).ok_or(Refusal::BrokenSchema)?;
+    let own_table = table::read(&schema, own).ok_or(Refusal::OwnTable)?;
+    let other_table = table::read(&schema, other).ok_or(Refusal::OtherTable)?;
+    let joined = join(&own_table, &other_table);
+    need(joined.records.len() <= joined.capacity, Refusal::Full)?;
+    own.copy_from_slice(&joined.words());
+    Ok(())
+}

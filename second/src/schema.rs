@@ -1,0 +1,121 @@
+//! The schema: 97 words.
+
+use crate::{need, Answer, Refusal};
+
+pub const WORDS: usize = 97;
+pub const BLOCK: usize = 12;
+pub const RELATIONS: usize = 8;
+pub const FIELDS: usize = 8;
+pub const LARGEST_KEY: u32 = 4;
+
+#[derive(Clone, Copy, Debug, PartialEq, Eq)]
+pub enum Kind {
+    Plain,
+    Abort(u64),
+    Propagation(u64),
+}
+
+impl Kind {
+    /// The relation that a reference leads to.
+    pub fn target(self) -> Option<u64> {
+        match self {
+            Kind::Plain => None,
+            Kind::Abort(relation) | Kind::Propagation(relation) => Some(relation),
+        }
+    }
+
+    pub fn abort_target(self) -> Option<u64> {
+        match self {
+            Kind::Abort(relation) => Some(relation),
+            _ => None,
+        }
+    }
+}
+
+#[derive(Clone, Debug, PartialEq, Eq)]
+pub struct Relation {
+    pub kinds: Vec<Kind>,
+    /// For each key the fields it names, counted from 0.
+    pub keys: Vec<Vec<usize>>,
+}
+
+#[derive(Clone, Debug, PartialEq, Eq)]
+pub struct Schema {
+    pub relations: Vec<Relation>,
+}
+
+impl Schema {
+    /// The relation of this number, which counts from 1.
+    pub fn relation(&self, number: u64) -> Option<&Relation> {
+        if number == 0 || number > self.relations.len() as u64 {
+            return None;
+        }
+        self.relations.get(number as usize - 1)
+    }
+}
+
+fn read_kind(word: u64, relations: u64) -> Option<Kind> {
+    if word == 1 {
+        Some(Kind::Plain)
+    } else if 17 <= word && word <= 16 + relations {
+        Some(Kind::Abort(word - 16))
+    } else if 33 <= word && word <= 32 + relations {
+        Some(Kind::Propagation(word - 32))
+    } else {
+        None
+    }
+}
+
+fn read_key(mask: u64, fields: usize) -> Option<Vec<usize>> {
+    let within = mask < 1 << fields;
+    if within && mask.count_ones() <= LARGEST_KEY {
+        Some((0..fields).filter(|field| mask >> field & 1 == 1).collect())
+    } else {
+        None
+    }
+}
+
+fn read_block(block: &[u64], relations: u64) -> Option<Relation> {
+    if block[0] < 1 || block[0] > FIELDS as u64 {
+        return None;
+    }
+    let fields = block[0] as usize;
+    let mut kinds = Vec::new();
+    for field in 0..fields {
+        kinds.push(read_kind(block[1 + field], relations)?);
+    }
+    if block[1 + fields..9].iter().any(|word| *word != 0) || block[11] != 0 {
+        return None;
+    }
+    let mut keys = Vec::new();
+    for mask in [block[9], block[10]] {
+        let key = read_key(mask, fields)?;
+        if !key.is_empty() {
+            keys.push(key);
+        }
+    }
+    Some(Relation { kinds, keys })
+}
+
+/// The schema that 97 words tell, if they are not broken.
+pub fn read(words: &[u64]) -> Option<Schema> {
+    if words.len() != WORDS || words[0] < 1 || words[0] > RELATIONS as u64 {
+        return None;
+    }
+    let count = words[0] as usize;
+    let mut relations = Vec::new();
+    for number in 0..RELATIONS {
+        let block = &words[1 + BLOCK * number..1 + BLOCK * (number + 1)];
+        if number < count {
+            relations.push(read_block(block, words[0])?);
+        } else if block.iter().any(|word| *word != 0) {
+            return None;
+        }
+    }
+    Some(Schema { relations })
+}
+
+pub fn schema_check(schema: &[u64]) -> Answer<()> {
+    need(schema.len() == WORDS, Refusal::LengthOrIndex)?;
+    need(read(schema).is_some(), Refusal::BrokenSchema)
+}

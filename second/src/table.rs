@@ -1,0 +1,215 @@
+//! The table: 16 + 20N words.
+
+use crate::label::{self, Register};
+use crate::schema::{self, Kind, Schema};
+use crate::{need, Answer, Refusal};
+use std::collections::BTreeMap;
+
+pub const HEADER: usize = 16;
+pub const RECORD: usize = 20;
+pub const LARGEST_CAPACITY: usize = 4_096;
+pub const DELTA_CAPACITY: usize = 9;
+pub const DELTA_WORDS: usize = HEADER + RECORD * DELTA_CAPACITY;
+
+#[derive(Clone, Debug, PartialEq, Eq)]
+pub struct Record {
+    pub relation: u64,
+    pub label: u64,
+    pub flag: u64,
+    /// As many as the relation has fields.
+    pub registers: Vec<Register>,
+}
+
+impl Record {
+    pub fn is_complete(&self) -> bool {
+        self.registers.iter().all(|register| register.stamp != label::NONE)
+    }
+
+    pub fn is_even(&self) -> bool {
+        !label::is_deleted(self.flag)
+    }
+
+    pub fn name(&self) -> (u64, u64) {
+        (self.relation, self.label)
+    }
+}
+
+/// A well-formed table, decoded. The record of index i stands at i − 1.
+#[derive(Clone, Debug, PartialEq, Eq)]
+pub struct Table {
+    pub capacity: usize,
+    pub replica: u64,
+    pub clock: u64,
+    pub records: Vec<Record>,
+}
+
+impl Table {
+    /// The positions of the records by relation and label; its order is the list order.
+    pub fn positions(&self) -> BTreeMap<(u64, u64), usize> {
+        self.records.iter().enumerate().map(|(at, record)| (record.name(), at)).collect()
+    }
+
+    /// The words of the table; chains follow the list order.
+    pub fn words(&self) -> Vec<u64> {
+        let mut words = vec![0; HEADER + RECORD * self.capacity];
+        words[0] = self.replica;
+        words[1] = self.clock;
+        words[2] = self.records.len() as u64;
+        for (at, record) in self.records.iter().enumerate() {
+            let begin = HEADER + RECORD * at;
+            words[begin + 1] = record.relation;
+            words[begin + 2] = record.label;
+            words[begin + 3] = record.flag;
+            for (field, register) in record.registers.iter().enumerate() {
+                words[begin + 4 + field] = register.value;
+                words[begin + 12 + field] = register.stamp;
+            }
+        }
+        let mut last: Option<(u64, usize)> = None;
+        for ((relation, _), at) in self.positions() {
+            let link = match last {
+                Some((before, begin)) if before == relation => begin,
+                _ => 3 + relation as usize,
+            };
+            words[link] = at as u64 + 1;
+            last = Some((relation, HEADER + RECORD * at));
+        }
+        words
+    }
+}
+
+/// The N of a table of this many words.
+pub fn capacity_of(length: usize) -> Option<usize> {
+    if length < HEADER || (length - HEADER) % RECORD != 0 {
+        return None;
+    }
+    let capacity = (length - HEADER) / RECORD;
+    if capacity <= LARGEST_CAPACITY {
+        Some(capacity)
+    } else {
+        None
+    }
+}
+
+/// Whether this is an index of 1 to used and to N, in a table of a right length.
+pub fn is_index(table: &[u64], index: u64) -> bool {
+    index != 0 && is_place(table, index)
+}
+
+/// Whether this is 0 to used and to N, in a table of a right length.
+pub fn is_place(table: &[u64], place: u64) -> bool {
+    match capacity_of(table.len()) {
+        Some(capacity) => place <= table[2] && place <= capacity as u64,
+        None => false,
+    }
+}
+
+fn read_register(kind: Kind, value: u64, stamp: u64, clock: u64) -> Option<Register> {
+    if !label::is_label_or_none(stamp) || label::counter(stamp) > clock {
+        return None;
+    }
+    if stamp == label::NONE && value != 0 {
+        return None;
+    }
+    if kind != Kind::Plain {
+        if !label::is_label_or_none(value) || label::counter(value) > clock {
+            return None;
+        }
+    }
+    Some(Register { value, stamp })
+}
+
+fn read_record(schema: &Schema, words: &[u64], clock: u64) -> Option<Record> {
+    let (relation, name, flag) = (words[1], words[2], words[3]);
+    let kinds = &schema.relation(relation)?.kinds;
+    if !label::is_label(name) || label::counter(name) > clock || flag > label::LARGEST_FLAG {
+        return None;
+    }
+    let mut registers = Vec::new();
+    for (field, kind) in kinds.iter().enumerate() {
+        registers.push(read_register(*kind, words[4 + field], words[12 + field], clock)?);
+    }
+    let unused = kinds.len()..schema::FIELDS;
+    if unused.into_iter().any(|field| words[4 + field] != 0 || words[12 + field] != 0) {
+        return None;
+    }
+    Some(Record { relation, label: name, flag, registers })
+}
+
+/// Whether the chains hold each record once, in its relation's chain, with strictly rising labels.
+fn chains_hold(words: &[u64], records: &[Record]) -> bool {
+    let mut held = 0;
+    for relation in 1..=schema::RELATIONS {
+        let mut index = words[3 + relation];
+        let mut before = 0;
+        while index != 0 {
+            if index > records.len() as u64 {
+                return false;
+            }
+            let at = index as usize - 1;
+            let record = &records[at];
+            if record.relation != relation as u64 || record.label <= before {
+                return false;
+            }
+            held += 1;
+            before = record.label;
+            index = words[HEADER + RECORD * at];
+        }
+    }
+    held == records.len()
+}
+
+/// The table that the words tell, if they have a right length and are well-formed.
+pub fn read(schema: &Schema, words: &[u64]) -> Option<Table> {
+    let capacity = capacity_of(words.len())?;
+    let (replica, clock, used) = (words[0], words[1], words[2]);
+    if replica < 1 || replica > label::LARGEST_REPLICA || clock > label::LARGEST_COUNTER {
+        return None;
+    }
+    if used > capacity as u64 || words[3] != 0 || words[12..16].iter().any(|word| *word != 0) {
+        return None;
+    }
+    let end = HEADER + RECORD * used as usize;
+    if words[end..].iter().any(|word| *word != 0) {
+        return None;
+    }
+    let mut records = Vec::new();
+    for record in words[HEADER..end].chunks(RECORD) {
+        records.push(read_record(schema, record, clock)?);
+    }
+    if !chains_hold(words, &records) {
+        return None;
+    }
+    Some(Table { capacity, replica, clock, records })
+}
+
+/// The checks 1 to 3 of a call on a schema and a table.
+pub fn read_checked(schema: &[u64], table: &[u64], more: bool) -> Answer<(Schema, Table)> {
+    let lengths = schema.len() == schema::WORDS && capacity_of(table.len()).is_some();
+    need(lengths && more, Refusal::LengthOrIndex)?;
+    let schema = schema::read(schema).ok_or(Refusal::BrokenSchema)?;
+    let table = read(&schema, table).ok_or(Refusal::OwnTable)?;
+    Ok((schema, table))
+}
+
+pub fn table_check(schema: &[u64], table: &[u64]) -> Answer<()> {
+    read_checked(schema, table, true).map(|_| ())
+}
+
+pub fn start(table: &mut [u64], replica: u64) -> Answer<()> {
+    need(capacity_of(table.len()).is_some(), Refusal::LengthOrIndex)?;
+    let replica_fits = 1 <= replica && replica <= label::LARGEST_REPLICA;
+    need(replica_fits, Refusal::RelationOrReplica)?;
+    table.fill(0);
+    table[0] = replica;
+    Ok(())
+}
+
+/// The eight values of the record of this index, or an empty part.
+pub fn values(table: &[u64], index: u64) -> &[u64] {
+    if !is_index(table, index) {
+        return &[];
+    }
+    let begin = HEADER + RECORD * (index as usize - 1) + 4;
+    &table[begin..begin + 8]
+}
