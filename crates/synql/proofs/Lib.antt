@@ -1,4 +1,5 @@
 pub mod Primitives
 pub mod State
 pub mod Mutators
+pub mod Compensated
 pub mod Steps

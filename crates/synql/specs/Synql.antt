@@ -113,6 +113,16 @@ updated t r u f v = single r u (record { fields = λ g. cond (eqb g f) (some (wr
 unfoldable pub compensation : RDb → (ℕ → ℕ → Bool) → RDb
 compensation db chosen r t = cond (chosen r t) (some (record { fields = noFields; flag = disable (flagIn (db r t)) })) none
 
+-- "A compensation is applied in two cases": which tuples it marks as non-deleted, of their identifiers. (i) "the deletion or the update of a foreign key
+-- that uses an abort semantic": "all tuples that are referenced by the reference .. if those tuples are also referenced by a tuple not marked as
+-- deleted".
+abbrev pub caseOne : (ℕ → ℕ) → (ℕ → Bool) → (ℕ → Bool) → ℕ → Bool
+caseOne flagOf referenced live k = referenced k && live k && enabled (flagOf k)
+
+-- (ii) "the insertion of a tuple which references another tuple marked as deleted but present in the database state": all tuples referenced by it.
+abbrev pub caseTwo : (ℕ → ℕ) → (ℕ → Bool) → ℕ → Bool
+caseTwo flagOf referenced k = referenced k && enabled (flagOf k)
+
 -- The four steps, over any type of tuples: which are in the replicated state, which are marked as deleted, the identifier of a tuple, the identifiers
 -- that it references with abort semantic and at all, which conflict, and which is older.
 module _ {X : Type 0} (In marked : X → Type 0) (key : X → ℕ) (aborts refers : X → ℕ → Type 0) (conflicts older : X → X → Type 0) where
