@@ -5,7 +5,8 @@ use mathlib.Core.Path.{_≡_, refl, ap, ap₂, sym, _∙_}
 use mathlib.Core.Bool.{Bool, true, false, _&&_}
 use native.Mathlib.Omega.{arith}
 use native.Mathlib.Numerals.{add-one}
-use Rattle.crdt.proofs.Tests.{Tri, low, same, high, tri, and-left, and-right, and-both}
+use mathlib.Core.Logic.{_⊎_, inl, inr}
+use Rattle.crdt.proofs.Tests.{Tri, low, same, high, tri, test, clash, and-left, and-right, and-both}
 use Rattle.model.specs.Lists.{each}
 
 pub each-none : (p : ℕ → Bool) → true ≡ each 0 p
@@ -48,3 +49,15 @@ each-both (suc n) p q = rw (each-both n p q) (swap (each n p) (each n q) (p (suc
     swap true false true d = refl
     swap true false false d = refl
     swap false b c d = refl
+
+-- one number that fails
+pub each-fail : (n : ℕ) (p : ℕ → Bool) (k : ℕ) → 1 ≤ k → k ≤ n → p k ≡ false → false ≡ each n p
+each-fail n p k h g e = go (test (each n p))
+  where
+    go : (each n p ≡ true) ⊎ (each n p ≡ false) → false ≡ each n p
+    go (inl q) = clash (each-at n p k q h g) e
+    go (inr q) = sym q
+
+-- a test that has passed so far, one turn more
+pub each-next : (n : ℕ) (p : ℕ → Bool) → each n p ≡ true → p (n + 1) ≡ true → each (n + 1) p ≡ true
+each-next n p e f = sym (each-more true true n p (sym e) (sym f))

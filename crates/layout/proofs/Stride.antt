@@ -3,16 +3,16 @@
 -- Assumes nothing.
 use Prim.Native.Nat.{ℕ, suc, _+_, _*_, _-_, _/_, _%_, _≤_, _<_, _^_}
 use mathlib.Core.Path.{_≡_, refl, ap, sym, _∙_}
-use mathlib.Core.Bool.{Bool, true, _&&_}
+use mathlib.Core.Bool.{Bool, true, false, _&&_, _||_}
 use mathlib.Core.List.{List}
 use mathlib.Core.Logic.{_≢_}
 use native.Mathlib.Omega.{arith}
-use lib.Dec.{leb, eqb}
+use lib.Dec.{leb, ltb, eqb}
 use lib.ListN.{length}
-use borrow.Author.Tests.{leb-true, eqb-true}
-use Rattle.crdt.proofs.Tests.{and-left, and-right}
-use Rattle.model.specs.Layout.{headerWords, recordWords, blockWords, schemaWords, mostRelations, mostRecords, deltaWords, deltaRecords, block, base, capacityOf}
-use Rattle.model.specs.Calls.{schemaLength, tableLength, deltaLength}
+use borrow.Author.Tests.{leb-true, eqb-true, eqb-false, ltb-false}
+use Rattle.crdt.proofs.Tests.{clash, and-left, and-right}
+use Rattle.model.specs.Layout.{headerWords, recordWords, blockWords, schemaWords, mostRelations, mostRecords, deltaWords, deltaRecords, block, base, capacityOf, usedAt}
+use Rattle.model.specs.Calls.{schemaLength, tableLength, deltaLength, badIndex}
 
 pub base-first : base 1 ≡ headerWords
 unfolding base
@@ -89,3 +89,24 @@ delta-capacity d e = rw (delta-sized d e)
 pub block-in : (r : ℕ) → r ≤ mostRelations → block r + blockWords ≤ schemaWords
 unfolding block
 block-in r h = omega arith
+
+-- what an index within the capacity says
+pub record Inside (t : List ℕ) (i : ℕ) : Type 0 where
+  pub small : recordWords * i ≤ length t
+  pub within : base i + recordWords ≤ length t
+
+pub inside : (t : List ℕ) (i : ℕ) → 1 ≤ i → i ≤ capacityOf t → Inside t i
+unfolding capacityOf base
+inside t i h g = record { small = omega arith; within = omega arith }
+
+pub index-inside : (t : List ℕ) (i : ℕ) → badIndex t i ≡ false → Inside t i
+unfolding badIndex
+index-inside t i e =
+    let a = or-neither (eqb i 0 || ltb (usedAt t) i) (ltb (capacityOf t) i) e in
+    let b = or-neither (eqb i 0) (ltb (usedAt t) i) (a .0) in
+    let n : i ≢ 0 = eqb-false i 0 (b .0) in
+    inside t i (omega arith) (ltb-false (capacityOf t) i (a .1))
+  where
+    or-neither : (x y : Bool) → (x || y) ≡ false → (x ≡ false) × (y ≡ false)
+    or-neither true y h = clash refl h
+    or-neither false y h = (refl, h)

@@ -4,7 +4,9 @@ use Prim.Native.Nat.{ℕ, _+_, _*_, _-_, _≤_, _<_, _^_}
 use mathlib.Core.Path.{_≡_, refl, ap, sym, _∙_}
 use mathlib.Core.List.{List}
 use native.Mathlib.Omega.{arith}
-use lib.ListN.{length, getD, List·getD-eq-default}
+use native.Mathlib.Nat.{add-sub-cancel-left}
+use lib.ListN.{length, getD, take, drop, List·getD-eq-default}
+use lib.Seq.{getD-take, getD-drop}
 use Rattle.model.specs.Layout.{fields, headWords, word, block, base, firstWords, relations, fieldCount, kindAt, maskAt, firstAt, nextAt, relationAt, labelAt, flagAt, valueAt, stampAt}
 
 -- a word past the end is 0
@@ -28,3 +30,12 @@ first-far t r h = word-past t _ (omega arith)
 module _ (t : List ℕ) (a x : ℕ) where
   pub word-at : (b : ℕ) → a ≡ b → x ≡ word t a → x ≡ word t b
   word-at b e h = rw e at h
+
+-- a word of a part
+pub word-part : (l : List ℕ) (a n k : ℕ) → k < n → word (take n (drop a l)) k ≡ word l (a + k)
+unfolding word
+word-part l a n k h = rw (getD-take, getD-drop)
+
+-- a part that starts at a and ends n words on
+pub part-at : (l : List ℕ) (a b n : ℕ) → a ≡ b → take (a + n - a) (drop a l) ≡ take n (drop b l)
+part-at l a b n e = rw (add-sub-cancel-left, e)

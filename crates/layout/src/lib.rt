@@ -21,6 +21,14 @@ pub const SCHEMA_WORDS: usize = 1 + MOST_RELATIONS * BLOCK_WORDS;
 pub const HEADER_WORDS: usize = 16;
 
 // The words of a record before its values: next, relation, label, flag.
+pub const NEXT_WORD: usize = 0;
+
+pub const RELATION_WORD: usize = 1;
+
+pub const LABEL_WORD: usize = 2;
+
+pub const FLAG_WORD: usize = 3;
+
 pub const HEAD_WORDS: usize = 4;
 
 pub const RECORD_WORDS: usize = HEAD_WORDS + 2 * FIELDS;
@@ -48,6 +56,11 @@ pub const USED_WORD: usize = 2;
 pub const ZERO_WORD: usize = 3;
 
 pub const FIRST_WORDS: usize = 4;
+
+// Where the zeros that end the header begin, and how many there are.
+pub const LAST_WORDS: usize = FIRST_WORDS + MOST_RELATIONS;
+
+pub const ZERO_WORDS: usize = HEADER_WORDS - LAST_WORDS;
 
 // Indices above this lie past the end of every slice.
 const LARGEST_INDEX: usize = 0x400_0000_0000_0000;
@@ -227,25 +240,25 @@ pub fn first_at(t: &[u64], r: usize) -> usize
 pub fn next_at(t: &[u64], i: usize) -> usize
     ensures { λ x. ⌜ x ≡ nextAt (now (t .entry)) i ⌝ }
 {
-    record_word(t, i, 0, 0) as usize
+    record_word(t, i, NEXT_WORD, 0) as usize
 }
 
 pub fn relation_at(t: &[u64], i: usize) -> usize
     ensures { λ x. ⌜ x ≡ relationAt (now (t .entry)) i ⌝ }
 {
-    record_word(t, i, 1, 0) as usize
+    record_word(t, i, RELATION_WORD, 0) as usize
 }
 
 pub fn label_at(t: &[u64], i: usize) -> u64
     ensures { λ x. ⌜ x ≡ labelAt (now (t .entry)) i ⌝ }
 {
-    record_word(t, i, 2, 0)
+    record_word(t, i, LABEL_WORD, 0)
 }
 
 pub fn flag_at(t: &[u64], i: usize) -> u64
     ensures { λ x. ⌜ x ≡ flagAt (now (t .entry)) i ⌝ }
 {
-    record_word(t, i, 3, 0)
+    record_word(t, i, FLAG_WORD, 0)
 }
 
 // The value of field `j` of record `i`, and its stamp.
