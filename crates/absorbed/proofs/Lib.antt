@@ -1,0 +1,11 @@
+pub mod Spell
+pub mod Links
+pub mod Frames
+pub mod Added
+pub mod Joined
+pub mod Step
+pub mod Beyond
+pub mod Walk
+pub mod Take
+pub mod Chain
+pub mod Wholes
