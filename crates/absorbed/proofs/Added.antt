@@ -1,26 +1,25 @@
 -- A record more: the words of a table to which a blank record was added at the end and linked in.
 -- Assumes nothing.
-use Prim.Native.Nat.{ℕ, zero, suc, _+_, _*_, _-_, _/_, _%_, _≤_, _<_}
+use Prim.Native.Nat.{ℕ, _+_, _-_, _/_, _%_, _≤_, _<_}
 use mathlib.Core.Path.{_≡_, refl, sym, _∙_, ap}
-use mathlib.Core.Bool.{Bool, true, false, cond, _&&_}
-use mathlib.Core.List.{List, [], _∷_, _++_, map, List·Memᴰ·head, List·Memᴰ·tail, List·Memᴰ·not-nil}
+use mathlib.Core.Bool.{true, false}
+use mathlib.Core.List.{List, [], _∷_, _++_, List·Memᴰ·head, List·Memᴰ·tail, List·Memᴰ·not-nil}
 use mathlib.Core.Logic.{_⊎_, inl, inr, _≢_}
 use native.Mathlib.Omega.{arith}
-use lib.Dec.{eqb, ltb, leb}
-use lib.ListN.{length, getD, set, replicate, length-set, length-replicate, getD-replicate}
+use lib.Dec.{eqb, leb}
+use lib.ListN.{length, getD, set, length-set, length-replicate, getD-replicate}
 use borrow.Author.Tests.{eqb-true, eqb-false, leb-true, leb-false}
-use Rattle.crdt.specs.Flags.{largestFlag}
-use Rattle.crdt.specs.Cells.{Reg, reg, noReg, Cell}
-use Rattle.crdt.proofs.Tests.{test, clash, Tri, low, same, high, tri}
-use Rattle.model.specs.Layout.{fields, mostRelations, mostRecords, firstWords, headWords, headerWords, recordWords, usedWord, word, base, usedAt}
-use Rattle.model.specs.Records.{Rec, place, relation, label, labelSpan, has, distinct, Distinct}
+use Rattle.crdt.specs.Cells.{Reg, noReg}
+use Rattle.crdt.proofs.Tests.{test, Tri, low, same, high, tri}
+use Rattle.model.specs.Layout.{fields, mostRelations, firstWords, headWords, headerWords, recordWords, usedWord, word, base}
+use Rattle.model.specs.Records.{Rec, place, relation, label, labelSpan, has}
 use Rattle.model.specs.Tables.{Table, encode, follower}
 use Rattle.laws.proofs.Valid.{distinct-true, true-distinct}
 use Rattle.laws.proofs.Merge.{append-distinct}
 use Rattle.laws.proofs.Lists.{_∈_}
 use Rattle.encoded.proofs.Follow.{has-none, has-record, same-position}
 use Rattle.encoded.proofs.Words.{enc-used}
-use Rattle.absorbed.specs.Absorb.{noRec, nth, withRecords, blank, Sound, SoundTable, added}
+use Rattle.absorbed.specs.Absorb.{nth, withRecords, blank, Sound, SoundTable, added}
 use Rattle.absorbed.proofs.Spell.{Spells, encode-spells, spells-encode}
 use Rattle.absorbed.proofs.Links.{more-length, more-old, more-new, stays, leads, goes-on}
 use Rattle.absorbed.proofs.Frames.{set-here, set-there, fits, sound-key, no-zero}
@@ -50,9 +49,6 @@ pub record LinkWord (n a : ℕ) : Type 0 where
 
 module _ (v : Table) (w : SoundTable v) (r l : ℕ) (a₁ : 1 ≤ r) (a₂ : r ≤ mostRelations) (a₃ : 1 ≤ l) (a₄ : l < labelSpan)
     (new : has (v .records) (place r l) ≡ false) (room : length (v .records) < v .capacity) where
-  abbrev K : ℕ
-  K = place r l
-
   abbrev s : List Rec
   s = v .records
 

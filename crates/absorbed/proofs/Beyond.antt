@@ -1,30 +1,29 @@
 -- The records of a table above a key, in list order: how a walk along the chains reads them.
 -- Assumes nothing.
-use Prim.Native.Nat.{ℕ, zero, suc, _+_, _*_, _-_, _/_, _%_, _≤_, _<_}
+use Prim.Native.Nat.{ℕ, zero, suc, _+_, _-_, _/_, _%_, _≤_, _<_}
 use mathlib.Core.Path.{_≡_, refl, sym, _∙_, ap}
-use mathlib.Core.Bool.{Bool, true, false, cond, _||_, not}
-use mathlib.Core.List.{List, [], _∷_, _++_, List·Memᴰ·head, List·Memᴰ·tail}
+use mathlib.Core.Bool.{Bool, true, false, cond}
+use mathlib.Core.List.{List, [], _∷_, List·Memᴰ·head, List·Memᴰ·tail}
 use mathlib.Core.Option.{Option, none, some}
 use mathlib.Core.Logic.{_⊎_, inl, inr, _≢_}
 use native.Mathlib.Omega.{arith}
 use lib.Dec.{eqb, ltb}
 use lib.ListN.{length, getD}
-use borrow.Author.Tests.{eqb-true, eqb-false, eq-eqb, ne-eqb, ltb-true, ltb-false, lt-ltb, le-ltb}
+use borrow.Author.Tests.{eqb-true, eqb-false, ltb-true, ltb-false, lt-ltb, le-ltb}
 use Rattle.crdt.specs.Cells.{Cell, joinOpt}
-use Rattle.crdt.proofs.Tests.{test, clash, Tri, low, same, high, tri}
+use Rattle.crdt.proofs.Tests.{test, Tri, low, same, high, tri}
 use Rattle.model.specs.Layout.{mostRelations}
 use Rattle.model.specs.Lists.{only}
-use Rattle.model.specs.Records.{Rec, place, relation, label, labelSpan, has, own, at, inOrder, Rising, distinct, position}
+use Rattle.model.specs.Records.{Rec, place, labelSpan, has, own, at, inOrder, Rising, position}
 use Rattle.model.specs.Tables.{Table, follower}
 use Rattle.laws.proofs.Lists.{_∈_}
-use Rattle.laws.proofs.Join.{ext, at-head, at-tail, at-below, own-other, rising-weaken}
+use Rattle.laws.proofs.Join.{ext, at-head, at-tail, own-other, rising-weaken}
 use Rattle.laws.proofs.Order.{order-rising, at-order}
 use Rattle.laws.proofs.Members.{absent, at-key}
-use Rattle.laws.proofs.Shown.{has-in}
 use Rattle.laws.proofs.Valid.{distinct-true}
-use Rattle.encoded.proofs.Follow.{has-record, position-some, Follows, Last, follows, follows-is, last-is}
-use Rattle.absorbed.specs.Absorb.{noRec, nth, beyond, Sound, SoundTable}
-use Rattle.absorbed.proofs.Frames.{no-zero, sound-key}
+use Rattle.encoded.proofs.Follow.{position-some, Follows, Last, follows, follows-is, last-is}
+use Rattle.absorbed.specs.Absorb.{noRec, nth, beyond, SoundTable}
+use Rattle.absorbed.proofs.Frames.{no-zero}
 
 -- what a test of keys leaves
 only-rising : (k b : ℕ) (s : List Rec) → Rising b s → Rising b (only (λ (x : Rec). ltb k (x .key)) s)

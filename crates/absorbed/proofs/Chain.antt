@@ -1,27 +1,25 @@
 -- A chain of another table, walked in lockstep with the own: its records taken in, or counted where they are missing.
 -- Assumes nothing.
-use Prim.Native.Nat.{ℕ, zero, suc, _+_, _*_, _-_, _/_, _%_, _≤_, _<_, max}
+use Prim.Native.Nat.{ℕ, _+_, _-_, _/_, _%_, _≤_, _<_}
 use mathlib.Core.Path.{_≡_, refl, sym, _∙_, ap, subst}
-use mathlib.Core.Bool.{Bool, true, false, cond, _&&_, _||_, not}
-use mathlib.Core.List.{List, [], _∷_, _++_, map}
-use mathlib.Core.Logic.{_⊎_, inl, inr, _≢_}
+use mathlib.Core.Bool.{Bool, true, false, cond, not}
+use mathlib.Core.List.{List, [], _∷_, map}
+use mathlib.Core.Logic.{_⊎_, inl, inr}
 use native.Mathlib.Omega.{arith}
-use lib.Dec.{eqb, ltb}
-use lib.ListN.{length, getD, length-append, length-map}
-use borrow.Author.Tests.{eqb-true, eqb-false, eq-eqb, ne-eqb, ltb-true, ltb-false, lt-ltb, le-ltb}
-use Rattle.crdt.proofs.Tests.{test, clash}
-use Rattle.model.specs.Layout.{fields, mostRelations, mostRecords, firstWords, word, base, capacityOf, usedAt, firstAt, nextAt, relationAt, labelAt}
+use lib.Dec.{ltb}
+use lib.ListN.{length, length-append, length-map}
+use Rattle.model.specs.Layout.{mostRelations, firstWords, firstAt, nextAt, relationAt, labelAt}
 use Rattle.model.specs.Lists.{only}
-use Rattle.model.specs.Records.{Rec, place, relation, label, labelSpan, has, at, inOrder, Rising, Distinct, distinct, position}
+use Rattle.model.specs.Records.{Rec, place, relation, label, labelSpan, has, at, inOrder, Rising, distinct}
 use Rattle.model.specs.Tables.{Table, decode, encode, follower}
-use Rattle.model.specs.Merge.{joinHeld, joinedWith, mergedRecords}
+use Rattle.model.specs.Merge.{joinedWith, mergedRecords}
 use Rattle.laws.proofs.Lists.{only-length}
 use Rattle.laws.proofs.Order.{order-rising, at-order, order-length}
 use Rattle.laws.proofs.Members.{order-rising-same}
 use Rattle.laws.proofs.Merge.{new, append-nil}
 use Rattle.laws.proofs.Valid.{distinct-true}
 use Rattle.encoded.proofs.Follow.{Follows, Last, follows}
-use Rattle.absorbed.specs.Absorb.{noRec, nth, held, withRecords, absorb, beyond, missing, ahead, Sound, SoundTable, Whole, Linked, first, next, meets, Sought, Seekable, Takeable, Chained, Taken, Mergeable}
+use Rattle.absorbed.specs.Absorb.{nth, held, withRecords, absorb, beyond, missing, ahead, SoundTable, Whole, Linked, first, meets, Sought, Seekable, Takeable, Chained, Taken, Mergeable}
 use Rattle.absorbed.proofs.Frames.{no-zero}
 use Rattle.absorbed.proofs.Step.{step}
 use Rattle.absorbed.proofs.Beyond.{beyond-rising, beyond-next, beyond-last, beyond-all, beyond-none, follower-first}
@@ -55,9 +53,6 @@ pub record Going (t b : List ℕ) (r j a : ℕ) : Type 0 where
   pub linked : Linked (decode t .records) r (key % labelSpan) a
 
 module _ (t b : List ℕ) (wt : Whole t) (wb : Whole b) (r : ℕ) (r₁ : 1 ≤ r) (r₂ : r ≤ mostRelations) where
-  abbrev o : List Rec
-  o = held b
-
   pub going-start : (j a : ℕ) → j ≡ firstAt b r → a ≡ firstWords + (r - 1) → Going t b r j a
   going-start j a e d =
       record {
@@ -140,9 +135,6 @@ module _ (t₀ b : List ℕ) (r : ℕ) (c : Chained t₀ b r) where
     module _ (n : 0 < j) where
       pub along-seek : Seekable t (labelAt b j) a
       along-seek = going-seek t b (g .whole) (c .other) r (c .least) (c .most) j a (g .going) n
-
-      y : Rec
-      y = nth (held b) j
 
       rest : beyond (g .going .key) (held b) ≡ nth (held b) j ∷ beyond (nth (held b) j .key) (held b)
       rest = going-rest t b (g .whole) (c .other) r (c .least) (c .most) j a (g .going) n

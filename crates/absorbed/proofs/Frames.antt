@@ -1,29 +1,26 @@
 -- What stores into a table's words do to its value: the cell of a record, and a record more.
 -- Assumes nothing.
-use Prim.Native.Nat.{ℕ, zero, suc, _+_, _*_, _-_, _/_, _%_, _≤_, _<_}
+use Prim.Native.Nat.{ℕ, suc, _+_, _-_, _/_, _%_, _≤_, _<_}
 use mathlib.Core.Path.{_≡_, refl, sym, _∙_, ap}
-use mathlib.Core.Bool.{Bool, true, false, cond, _&&_}
-use mathlib.Core.List.{List, [], _∷_, _++_, map}
+use mathlib.Core.Bool.{true, false}
+use mathlib.Core.List.{List, [], _∷_}
 use mathlib.Core.Logic.{_⊎_, inl, inr, _≢_}
 use native.Mathlib.Omega.{arith}
-use lib.Dec.{eqb, ltb}
-use lib.ListN.{length, getD, set, replicate, length-set, length-replicate, getD-replicate}
+use lib.Dec.{eqb}
+use lib.ListN.{length, getD, set, length-set}
 use lib.Seq.{getD-set-same, getD-set-other, map-set-same}
 use borrow.Author.Tests.{eqb-true, eqb-false}
 use Rattle.crdt.specs.Flags.{largestFlag}
-use Rattle.crdt.specs.Cells.{Reg, reg, noReg, Cell}
-use Rattle.crdt.proofs.Tests.{test, clash, Tri, low, same, high, tri}
-use Rattle.model.specs.Layout.{fields, mostRelations, mostRecords, firstWords, headWords, headerWords, recordWords, usedWord, word, base, usedAt}
-use Rattle.model.specs.Records.{Rec, place, relation, label, labelSpan, has, distinct, Distinct}
+use Rattle.crdt.specs.Cells.{Reg, noReg, Cell}
+use Rattle.crdt.proofs.Tests.{test}
+use Rattle.model.specs.Layout.{fields, headWords, headerWords, recordWords, word, base}
+use Rattle.model.specs.Records.{Rec, labelSpan, has}
 use Rattle.model.specs.Tables.{Table, encode, follower}
-use Rattle.laws.proofs.Valid.{distinct-true, true-distinct}
-use Rattle.laws.proofs.Merge.{append-distinct}
-use Rattle.laws.proofs.Lists.{_∈_}
-use Rattle.encoded.proofs.Follow.{has-record, position-some, same-position}
+use Rattle.encoded.proofs.Follow.{position-some}
 use Rattle.encoded.proofs.Words.{Sized, Fits}
-use Rattle.absorbed.specs.Absorb.{noRec, nth, withRecords, blank, celled, Sound, SoundTable, Linked, first, next, added}
+use Rattle.absorbed.specs.Absorb.{noRec, nth, withRecords, celled, Sound, SoundTable}
 use Rattle.absorbed.proofs.Spell.{Spells, encode-spells, spells-encode}
-use Rattle.absorbed.proofs.Links.{keys, follower-keys, has-keys, distinct-keys, more-length, more-old, more-new, more-has, has-more, stays, leads, goes-on}
+use Rattle.absorbed.proofs.Links.{keys, follower-keys, distinct-keys}
 
 -- words after a store
 pub set-here : (t : List ℕ) (a x : ℕ) → a < length t → word (set t a x) a ≡ x
@@ -133,12 +130,6 @@ module _ (v : Table) (w : SoundTable v) (p : ℕ) (a : 1 ≤ p) (b : p ≤ lengt
       → t' ≡ encode (withRecords v (celled (v .records) p c))
   celled-words t' size off flag values stamps = spells-encode t' _ (fits _ celled-sound) spelled
     where
-      s : List Rec
-      s = v .records
-
-      s' : List Rec
-      s' = celled (v .records) p c
-
       old : Spells (encode v) v
       old = encode-spells v (fits v w)
 
@@ -227,9 +218,6 @@ module _ (v : Table) (w : SoundTable v) (p : ℕ) (a : 1 ≤ p) (b : p ≤ lengt
 
       old : Spells (encode v) v
       old = encode-spells v (fits v w)
-
-      rs : List Reg
-      rs = nth (v .records) p .cell .regs
 
       wide : length (nth (v .records) p .cell .regs) ≡ fields
       wide = w .sound p a b .wide

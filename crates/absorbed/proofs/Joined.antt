@@ -1,25 +1,24 @@
 -- Joining a record of another table into a record, word by word.
 -- Assumes nothing.
-use Prim.Native.Nat.{ℕ, zero, suc, _+_, _*_, _-_, _≤_, _<_, max}
+use Prim.Native.Nat.{ℕ, zero, suc, _+_, _-_, _≤_, _<_, max}
 use mathlib.Core.Path.{_≡_, refl, sym, _∙_, ap, ap₂}
-use mathlib.Core.Bool.{Bool, true, false, cond}
-use mathlib.Core.List.{List, [], _∷_, _++_}
-use mathlib.Core.Logic.{_⊎_, inl, inr, _≢_}
+use mathlib.Core.Bool.{true, false}
+use mathlib.Core.List.{List, [], _∷_}
+use mathlib.Core.Logic.{_⊎_, inl, inr}
 use native.Mathlib.Omega.{arith}
-use lib.Dec.{eqb, ltb}
+use lib.Dec.{eqb}
 use lib.ListN.{length, getD, set, length-set}
 use lib.Seq.{getD-set-same, getD-set-other, set-set, set-getD, ext-getD}
 use borrow.Author.Tests.{eqb-true, eqb-false}
 use Rattle.crdt.specs.Flags.{largestFlag}
 use Rattle.crdt.specs.Cells.{Reg, reg, noReg, Cell, joinReg, joinRegs, joinCell}
-use Rattle.crdt.proofs.Tests.{test, clash}
-use Rattle.model.specs.Layout.{fields, headWords, word, base, flagAt, valueAt, stampAt}
-use Rattle.model.specs.Lists.{listed}
+use Rattle.crdt.proofs.Tests.{test}
+use Rattle.model.specs.Layout.{fields, headWords, base, flagAt, valueAt, stampAt}
 use Rattle.model.specs.Records.{Rec}
 use Rattle.model.specs.Tables.{Table, encode, recordOf}
 use Rattle.encoded.proofs.Ranges.{listed-at, listed-length}
 use Rattle.absorbed.specs.Absorb.{noRec, nth, withRecords, celled, joinedAt, SoundTable, fieldJoined, fieldsJoined, flagJoined, recordJoined}
-use Rattle.absorbed.proofs.Spell.{Spells, encode-spells}
+use Rattle.absorbed.proofs.Spell.{encode-spells}
 use Rattle.absorbed.proofs.Frames.{fits, celled-here, celled-length, celled-sound, flag-words, register-words}
 
 -- the first n registers joined

@@ -1,16 +1,16 @@
 -- The links of records: they follow from the keys alone, and of records with one more at the end, one link is new and the others stay.
 -- Assumes nothing.
-use Prim.Native.Nat.{ℕ, zero, suc, _+_, _-_, _/_, _≤_, _<_}
+use Prim.Native.Nat.{ℕ, suc, _+_, _-_, _/_, _≤_, _<_}
 use mathlib.Core.Path.{_≡_, refl, sym, _∙_, ap}
 use mathlib.Core.Bool.{Bool, true, false, cond, _&&_, _||_, not}
 use mathlib.Core.List.{List, [], _∷_, _++_, map}
-use mathlib.Core.Logic.{_⊎_, inl, inr, _≢_}
+use mathlib.Core.Logic.{_⊎_, inl, inr}
 use native.Mathlib.Omega.{arith}
 use lib.Dec.{eqb, ltb}
-use lib.ListN.{length, getD, set, length-append, List·getD-append}
-use lib.Seq.{getD-append-seam, map-set-same}
-use borrow.Author.Tests.{eqb-true, eqb-false, eq-eqb, ne-eqb, ltb-true, ltb-false}
-use Rattle.crdt.proofs.Tests.{test, clash, or-cases, or-left, or-right, Tri, low, same, high, tri}
+use lib.ListN.{length, getD, length-append, List·getD-append}
+use lib.Seq.{getD-append-seam}
+use borrow.Author.Tests.{ltb-true, ltb-false}
+use Rattle.crdt.proofs.Tests.{test, clash, or-cases, or-left, or-right}
 use Rattle.model.specs.Lists.{only, some-of}
 use Rattle.model.specs.Records.{Rec, relation, labelSpan, has, distinct, leastAbove, positionFrom, position}
 use Rattle.model.specs.Tables.{follower}

@@ -2,21 +2,21 @@
 -- Assumes nothing.
 use Prim.Native.Nat.{ℕ, zero, suc, _+_, _*_, _-_, _/_, _%_, _≤_, _<_}
 use mathlib.Core.Path.{_≡_, refl, sym, _∙_, ap}
-use mathlib.Core.Bool.{Bool, true, false}
-use mathlib.Core.List.{List, [], _∷_}
-use mathlib.Core.Logic.{_⊎_, inl, inr, _≢_}
+use mathlib.Core.Bool.{true, false}
+use mathlib.Core.List.{List}
+use mathlib.Core.Logic.{_⊎_, inl, inr}
 use native.Mathlib.Omega.{arith}
-use lib.Dec.{eqb, ltb, leb}
-use lib.ListN.{length, getD, set, drop, replicate, length-set, length-replicate, getD-replicate, List·getD-eq-default}
-use lib.Seq.{ext-getD, getD-drop, getD-set-same, getD-set-other}
-use borrow.Author.Tests.{ltb-true, ltb-false, leb-true, leb-false, eqb-true, eqb-false}
-use Rattle.crdt.specs.Cells.{Reg, noReg, Cell}
+use lib.Dec.{ltb, leb}
+use lib.ListN.{length, getD, replicate, length-replicate, getD-replicate, List·getD-eq-default}
+use lib.Seq.{ext-getD, getD-drop}
+use borrow.Author.Tests.{ltb-true, ltb-false, leb-true, leb-false}
+use Rattle.crdt.specs.Cells.{noReg}
 use Rattle.crdt.proofs.Tests.{test}
-use Rattle.model.specs.Layout.{fields, mostRelations, mostRecords, firstWords, headWords, headerWords, recordWords, zeroWord, zeroWords, word, base, replicaAt, clockAt, usedAt, firstAt, nextAt, relationAt, labelAt, flagAt, valueAt, stampAt}
-use Rattle.model.specs.Records.{Rec, relation, label}
-use Rattle.model.specs.Tables.{Table, decode, encode, follower}
+use Rattle.model.specs.Layout.{fields, mostRelations, firstWords, headWords, headerWords, recordWords, word, base, replicaAt, clockAt, usedAt, firstAt, nextAt, relationAt, labelAt, flagAt, valueAt, stampAt}
+use Rattle.model.specs.Records.{relation, label}
+use Rattle.model.specs.Tables.{Table, encode, follower}
 use Rattle.encoded.proofs.Words.{Fits, enc-replica, enc-clock, enc-used, enc-zero, enc-zeros, enc-first, enc-next, enc-relation, enc-label, enc-flag, enc-value, enc-stamp, encode-length, enc-rest}
-use Rattle.absorbed.specs.Absorb.{noRec, nth}
+use Rattle.absorbed.specs.Absorb.{nth}
 
 -- Words t spell value v.
 pub record Spells (t : List ℕ) (v : Table) : Type 0 where

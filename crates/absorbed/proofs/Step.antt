@@ -1,28 +1,26 @@
 -- Taking in one record is one step of a merge: what is left to take in then gives the same records.
 -- Assumes nothing.
-use Prim.Native.Nat.{ℕ, zero, suc, _+_, _-_, _≤_, _<_, max}
+use Prim.Native.Nat.{ℕ, zero, suc, _+_, _-_, _<_, max}
 use mathlib.Core.Path.{_≡_, refl, sym, _∙_, ap, ap₂}
 use mathlib.Core.Bool.{Bool, true, false, cond, _||_, not}
 use mathlib.Core.List.{List, [], _∷_, _++_, map, append-assoc}
-use mathlib.Core.Option.{Option, none, some}
 use mathlib.Core.Logic.{_⊎_, inl, inr, _≢_}
 use native.Mathlib.Omega.{arith}
 use lib.Dec.{eqb, ltb}
-use lib.ListN.{length, getD, set, replicate, length-append, length-map}
-use lib.Seq.{set-append-seam}
+use lib.ListN.{length, getD, set, replicate}
 use borrow.Author.Tests.{eqb-true, eqb-false, eq-eqb, ne-eqb, ltb-true, ltb-false}
-use Rattle.crdt.specs.Cells.{Reg, reg, noReg, upTo, joinReg, joinRegs, Cell, joinCell, joinOpt}
+use Rattle.crdt.specs.Cells.{Reg, noReg, joinReg, joinRegs, Cell, joinCell}
 use Rattle.crdt.proofs.Tests.{test, clash}
 use Rattle.crdt.proofs.Order.{join-later, join-tie-up}
 use Rattle.model.specs.Layout.{fields}
 use Rattle.model.specs.Lists.{only, some-of}
-use Rattle.model.specs.Records.{Rec, has, own, at, inOrder, Rising, Distinct, distinct, position, positionFrom}
-use Rattle.model.specs.Merge.{joinHeld, joinedWith, mergedRecords}
+use Rattle.model.specs.Records.{Rec, has, inOrder, Rising, Distinct, position, positionFrom}
+use Rattle.model.specs.Merge.{joinedWith, mergedRecords}
 use Rattle.laws.proofs.Join.{rising-weaken, at-below, at-head, at-tail}
-use Rattle.laws.proofs.Merge.{new, has-append, append-nil}
+use Rattle.laws.proofs.Merge.{new, append-nil}
 use Rattle.laws.proofs.Members.{order-rising-same}
-use Rattle.encoded.proofs.Follow.{has-here, has-there, has-cases, has-none, has-not}
-use Rattle.absorbed.specs.Absorb.{noRec, nth, blank, spaced, celled, joinedAt, absorb}
+use Rattle.encoded.proofs.Follow.{has-here, has-cases, has-none, has-not}
+use Rattle.absorbed.specs.Absorb.{noRec, blank, spaced, celled, joinedAt, absorb}
 use Rattle.absorbed.proofs.Links.{has-last}
 use Rattle.absorbed.proofs.Added.{blank-key}
 

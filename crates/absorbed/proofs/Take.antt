@@ -1,31 +1,27 @@
 -- One record of another table taken in, and the records of a chain.
 -- Assumes nothing.
-use Prim.Native.Nat.{ℕ, zero, suc, _+_, _*_, _-_, _/_, _%_, _≤_, _<_, max}
-use mathlib.Core.Path.{_≡_, refl, sym, _∙_, ap, subst}
-use mathlib.Core.Bool.{Bool, true, false, cond, _&&_, _||_, not}
+use Prim.Native.Nat.{ℕ, _+_, _-_, _/_, _%_, _≤_}
+use mathlib.Core.Path.{_≡_, refl, sym, _∙_, ap}
+use mathlib.Core.Bool.{true, false}
 use mathlib.Core.List.{List, [], _∷_, _++_}
-use mathlib.Core.Logic.{_⊎_, inl, inr, _≢_}
+use mathlib.Core.Logic.{_⊎_, inl, inr}
 use native.Mathlib.Omega.{arith}
-use lib.Dec.{eqb, ltb}
-use lib.ListN.{length, getD, length-append, length-map}
-use borrow.Author.Tests.{eqb-true, eqb-false, eq-eqb, ne-eqb, ltb-true, ltb-false, lt-ltb, le-ltb}
+use lib.ListN.{length}
 use Rattle.crdt.specs.Flags.{largestFlag}
-use Rattle.crdt.specs.Cells.{Cell, Reg, joinCell, joinRegs}
-use Rattle.crdt.proofs.Tests.{test, clash}
-use Rattle.model.specs.Layout.{fields, mostRelations, mostRecords, firstWords, word, base, capacityOf, usedAt, firstAt, nextAt, relationAt, labelAt, flagAt}
-use Rattle.model.specs.Lists.{only}
+use Rattle.crdt.specs.Cells.{joinCell}
+use Rattle.crdt.proofs.Tests.{test}
+use Rattle.model.specs.Layout.{mostRecords, word, usedAt, relationAt, labelAt, flagAt}
 use Rattle.model.specs.Records.{Rec, place, relation, label, labelSpan, has, distinct, position}
-use Rattle.model.specs.Tables.{Table, decode, encode, recordOf, follower}
-use Rattle.model.specs.Merge.{mergedRecords}
+use Rattle.model.specs.Tables.{Table, decode, encode, recordOf}
 use Rattle.encoded.proofs.Follow.{position-some, position-at, Placed}
 use Rattle.encoded.proofs.Words.{enc-used}
-use Rattle.absorbed.specs.Absorb.{noRec, nth, held, withRecords, blank, spaced, celled, joinedAt, absorb, Sound, SoundTable, Whole, Linked, first, next, meets, Sought, Open, Takeable, added, recordJoined}
-use Rattle.absorbed.proofs.Links.{more-length, more-old, more-new, has-last}
-use Rattle.absorbed.proofs.Frames.{fits, no-zero, sound-key, celled-sound, celled-key, celled-length}
+use Rattle.absorbed.specs.Absorb.{nth, held, withRecords, blank, spaced, joinedAt, absorb, Sound, SoundTable, Whole, Linked, first, next, meets, Open, Takeable, added, recordJoined}
+use Rattle.absorbed.proofs.Links.{more-length, more-old, more-new}
+use Rattle.absorbed.proofs.Frames.{celled-sound, celled-key, celled-length}
 use Rattle.absorbed.proofs.Added.{blank-key, more-sound}
 use Rattle.absorbed.proofs.Joined.{join-length, record-words}
 use Rattle.absorbed.proofs.Step.{blank-last}
-use Rattle.absorbed.proofs.Walk.{encode-decode, whole-encode, used-is, record-is, relation-is, label-is, flag-is, found, not-found, added-there}
+use Rattle.absorbed.proofs.Walk.{encode-decode, whole-encode, record-is, relation-is, label-is, flag-is, found, not-found, added-there}
 
 -- records with one of key k
 module _ (s : List Rec) (k : ℕ) where
@@ -58,18 +54,12 @@ last-position s k d =
     rw e at (position-at (length s + 1) (s ++ (blank k ∷ [])) d (omega arith) (omega arith))
 
 module _ (t : List ℕ) (r l a : ℕ) (q : Open t r l a) where
-  abbrev v : Table
-  v = decode t
-
   pub spaced-sound : SoundTable (withRecords (decode t) (spaced (held t) (place r l)))
   spaced-sound = go (test (has (held t) (place r l)))
     where
       go : (has (held t) (place r l) ≡ true) ⊎ (has (held t) (place r l) ≡ false) → SoundTable (withRecords (decode t) (spaced (held t) (place r l)))
       go (inl h) = rw (spaced-yes (held t) (place r l) h) (q .whole .value)
       go (inr h) = rw (spaced-no (held t) (place r l) h) (more-sound (decode t) (q .whole .value) r l (q .least) (q .most) (q .labelled) (q .below) h (q .room h))
-
-  abbrev Spaced : List ℕ → ℕ → Type 0
-  Spaced t' i = (t' ≡ encode (withRecords (decode t) (spaced (held t) (place r l)))) × (i ≡ position (place r l) (spaced (held t) (place r l)))
 
   pub space-here : meets t a l ≡ true → (t ≡ encode (withRecords (decode t) (spaced (held t) (place r l)))) × (word t a ≡ position (place r l) (spaced (held t) (place r l)))
   space-here h =
@@ -107,9 +97,6 @@ linked-more s r l m _ h first = first
 linked-more s r l m _ h (next p a b e c) = next p a b e (omega arith)
 
 module _ (t b : List ℕ) (j a : ℕ) (q : Takeable t b j a) where
-  abbrev y : Rec
-  y = nth (held b) j
-
   y-sound : Sound (nth (held b) j)
   y-sound = q .other .value .sound j (q .least) (q .most)
 

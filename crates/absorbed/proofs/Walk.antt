@@ -1,28 +1,27 @@
 -- A whole table's words, and the links along which a merge goes: each step leads on, and where it stops a record has the label sought or none has.
 -- Assumes nothing.
-use Prim.Native.Nat.{ℕ, zero, suc, _+_, _*_, _-_, _/_, _%_, _≤_, _<_}
+use Prim.Native.Nat.{ℕ, suc, _+_, _-_, _/_, _≤_, _<_}
 use mathlib.Core.Path.{_≡_, refl, sym, _∙_, ap, subst}
-use mathlib.Core.Bool.{Bool, true, false, cond, _&&_, _||_, not}
+use mathlib.Core.Bool.{true, false}
 use mathlib.Core.List.{List, [], _∷_, _++_}
-use mathlib.Core.Logic.{_⊎_, inl, inr, _≢_}
+use mathlib.Core.Logic.{_⊎_, inl, inr}
 use native.Mathlib.Omega.{arith}
 use lib.Dec.{eqb, ltb}
-use lib.ListN.{length, getD}
+use lib.ListN.{length}
 use borrow.Author.Tests.{eqb-true, eqb-false, eq-eqb, ne-eqb, ltb-true, ltb-false, lt-ltb, le-ltb}
 use Rattle.crdt.specs.Flags.{largestFlag}
 use Rattle.crdt.proofs.Tests.{test, clash, and-left, and-right, and-both}
-use Rattle.model.specs.Layout.{fields, mostRelations, mostRecords, firstWords, word, base, capacityOf, usedAt, clockAt, firstAt, nextAt, relationAt, labelAt, flagAt}
-use Rattle.model.specs.Lists.{only, listed}
-use Rattle.model.specs.Records.{Rec, place, relation, label, labelSpan, has, distinct, position}
+use Rattle.model.specs.Layout.{mostRelations, firstWords, word, base, capacityOf, usedAt, clockAt, firstAt, nextAt, relationAt, labelAt, flagAt}
+use Rattle.model.specs.Lists.{only}
+use Rattle.model.specs.Records.{Rec, place, relation, label, labelSpan, has, position}
 use Rattle.model.specs.Tables.{Table, decode, encode, recordOf, follower}
 use Rattle.encoded.proofs.Ranges.{listed-at}
 use Rattle.encoded.proofs.Follow.{has-none, has-cases, has-record, position-at, Follows, Last, follows}
 use Rattle.encoded.proofs.Words.{decode-fits}
-use Rattle.absorbed.specs.Absorb.{noRec, nth, held, withRecords, blank, spaced, ahead, Sound, SoundTable, Whole, Linked, first, next, precedes, meets, Sought, added}
+use Rattle.absorbed.specs.Absorb.{noRec, nth, held, withRecords, blank, ahead, SoundTable, Whole, Linked, first, next, precedes, meets, Sought, added}
 use Rattle.absorbed.proofs.Spell.{Spells, encode-spells}
-use Rattle.absorbed.proofs.Links.{more-length, more-new}
-use Rattle.absorbed.proofs.Frames.{fits, no-zero, sound-key}
-use Rattle.absorbed.proofs.Added.{blank-key, more-sound, added-first, added-behind}
+use Rattle.absorbed.proofs.Frames.{fits, no-zero}
+use Rattle.absorbed.proofs.Added.{added-first, added-behind}
 
 -- The words of a sound value are whole.
 pub encode-decode : (v : Table) → SoundTable v → decode (encode v) ≡ v
@@ -74,9 +73,6 @@ unfolding ahead
 ahead-none s i h = rw (eq-eqb i 0 h)
 
 module _ (t : List ℕ) (w : Whole t) where
-  abbrev s : List Rec
-  s = held t
-
   spelled : Spells t (decode t)
   spelled = subst (λ (u : List ℕ). Spells u (decode t)) (w .words) (encode-spells (decode t) (fits (decode t) (w .value)))
 

@@ -7,7 +7,7 @@ use mathlib.Core.List.{List, [], _∷_, _++_}
 use lib.Dec.{eqb, ltb}
 use lib.ListN.{length, getD, set, replicate}
 use Rattle.crdt.specs.Flags.{largestFlag}
-use Rattle.crdt.specs.Cells.{Reg, reg, noReg, joinReg, Cell, joinCell}
+use Rattle.crdt.specs.Cells.{reg, noReg, joinReg, Cell, joinCell}
 use Rattle.model.specs.Layout.{fields, mostRelations, mostRecords, usedWord, firstWords, headWords, word, base, usedAt, relationAt, labelAt, flagAt, valueAt, stampAt}
 use Rattle.model.specs.Lists.{only}
 use Rattle.model.specs.Records.{Rec, place, relation, label, labelSpan, has, inOrder, distinct, position}

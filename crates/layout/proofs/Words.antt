@@ -1,13 +1,13 @@
 -- Words of a slice by what they mean: the forms in which the accessors ask for them.
 -- Assumes nothing.
-use Prim.Native.Nat.{ℕ, _+_, _*_, _-_, _≤_, _<_, _^_}
-use mathlib.Core.Path.{_≡_, refl, ap, sym, _∙_}
+use Prim.Native.Nat.{ℕ, _+_, _-_, _≤_, _<_, _^_}
+use mathlib.Core.Path.{_≡_, sym}
 use mathlib.Core.List.{List}
 use native.Mathlib.Omega.{arith}
 use native.Mathlib.Nat.{add-sub-cancel-left}
-use lib.ListN.{length, getD, take, drop, List·getD-eq-default}
+use lib.ListN.{length, take, drop, List·getD-eq-default}
 use lib.Seq.{getD-take, getD-drop}
-use Rattle.model.specs.Layout.{fields, headWords, word, block, base, firstWords, relations, fieldCount, kindAt, maskAt, firstAt, nextAt, relationAt, labelAt, flagAt, valueAt, stampAt}
+use Rattle.model.specs.Layout.{word, block, base, firstAt}
 
 -- a word past the end is 0
 pub word-past : (t : List ℕ) (k : ℕ) → length t ≤ k → 0 ≡ word t k

@@ -2,7 +2,7 @@
 // a word past the end of a slice is 0, and a store there does nothing.
 ghost use mathlib.Core.Path.{_≡_};
 ghost use Prim.Native.Nat.{_≤_, _+_, _-_, _^_};
-ghost use lib.ListN.{length, set};
+ghost use lib.ListN.{set};
 ghost use Rattle.model.specs.Layout.{word, block, base, relations, fieldCount, kindAt, maskAt, capacityOf, replicaAt, clockAt, usedAt, firstAt, nextAt, relationAt, labelAt, flagAt, valueAt, stampAt};
 ghost use Rattle.model.specs.Calls.{schemaLength, tableLength, deltaLength, marksLength, badIndex};
 

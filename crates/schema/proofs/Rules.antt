@@ -1,15 +1,15 @@
 -- The rules of a schema in the forms in which the functions ask for them.
 -- Assumes nothing.
-use Prim.Native.Nat.{ℕ, suc, _+_, _*_, _-_, _%_, _^_, _≤_, _<_}
-use mathlib.Core.Path.{_≡_, refl, ap, sym, _∙_}
-use mathlib.Core.Bool.{Bool, true, false, cond, _&&_, _||_, not, and-false}
+use Prim.Native.Nat.{ℕ, _+_, _*_, _-_, _%_, _^_, _≤_, _<_}
+use mathlib.Core.Path.{_≡_}
+use mathlib.Core.Bool.{Bool, true, false, cond, _&&_, not, and-false}
 use mathlib.Core.List.{List}
 use native.Mathlib.Omega.{arith}
 use native.Mathlib.Nat.{one-mul, mod-eq-of-lt}
 use lib.Pow.{pow-lt}
-use lib.Dec.{leb, ltb, eqb}
+use lib.Dec.{leb, eqb}
 use borrow.Author.Tests.{lt-leb, le-leb}
-use Rattle.model.specs.Layout.{fields, mostRelations, block, blockWords, word, relations, fieldCount, kindAt, maskAt}
+use Rattle.model.specs.Layout.{fields, mostRelations, block, word, relations, fieldCount, kindAt, maskAt}
 use Rattle.model.specs.Lists.{each}
 use Rattle.model.specs.Schemas.{kindRule, maskRule, blockRule, emptyBlock, broken}
 use Rattle.model.specs.Lists.{lowest}

@@ -1,16 +1,16 @@
 -- Where every chain rises, the chains hold all used records just if their lengths add up to the used count: a record has one relation, so it
 -- lies on one chain only, and there once, since labels rise.
 -- Assumes nothing.
-use Prim.Native.Nat.{ℕ, zero, suc, _+_, _*_, _-_, _≤_, _<_}
+use Prim.Native.Nat.{ℕ, zero, suc, _+_, _≤_, _<_}
 use mathlib.Core.Path.{_≡_, refl, ap, sym, _∙_}
-use mathlib.Core.Bool.{Bool, true, false, cond, _&&_, _||_}
+use mathlib.Core.Bool.{Bool, true, false, _&&_, _||_}
 use mathlib.Core.List.{List, [], _∷_}
 use mathlib.Core.Logic.{_⊎_, inl, inr, _≢_}
 use native.Mathlib.Omega.{arith}
 use lib.Dec.{leb, ltb, eqb}
 use lib.ListN.{length}
 use borrow.Author.Tests.{ltb-true, leb-true, leb-false, le-leb, lt-leb, eqb-true, eqb-false, eq-eqb, ne-eqb}
-use Rattle.crdt.proofs.Tests.{test, clash, or-cases, and-left, and-right}
+use Rattle.crdt.proofs.Tests.{clash, or-cases, and-left, and-right}
 use Rattle.model.specs.Layout.{mostRelations, usedAt, firstAt, nextAt, relationAt, labelAt}
 use Rattle.model.specs.Lists.{each, any, some-of}
 use Rattle.model.specs.WellFormed.{chainFrom, chainOf, chainStep, rises, chainsRise, onChain}

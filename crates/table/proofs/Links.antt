@@ -1,20 +1,17 @@
 -- Walking a chain: the walk's turns, and what the walk of a chain says.
 -- Assumes nothing.
-use Prim.Native.Nat.{ℕ, zero, suc, _+_, _*_, _-_, _≤_, _<_}
-use mathlib.Core.Path.{_≡_, refl, ap, sym, _∙_}
+use Prim.Native.Nat.{ℕ, zero, suc, _+_, _-_, _≤_, _<_}
+use mathlib.Core.Path.{_≡_, refl, _∙_}
 use mathlib.Core.Bool.{Bool, true, false, cond, _&&_}
 use mathlib.Core.List.{List, [], _∷_}
-use mathlib.Core.Logic.{_⊎_, inl, inr}
 use native.Mathlib.Omega.{arith}
 use native.Mathlib.Numerals.{sub-one}
-use native.Mathlib.Nat.{add-zero}
-use lib.Dec.{leb, ltb, eqb}
+use lib.Dec.{ltb}
 use lib.ListN.{length}
 use borrow.Author.Tests.{ltb-true, lt-ltb}
-use Rattle.crdt.proofs.Tests.{test, clash, and-left, and-right, and-both}
+use Rattle.crdt.proofs.Tests.{clash, and-left, and-right, and-both}
 use Rattle.model.specs.Layout.{usedAt, firstAt, nextAt, labelAt}
 use Rattle.model.specs.WellFormed.{chainFrom, chainOf, chainStep, rises}
-use Rattle.table.specs.declared.Walked.{Walked}
 use Rattle.table.specs.declared.Walked.the-variants.{Broken, Whole}
 use Rattle.table.specs.Chains.{walkedChain}
 

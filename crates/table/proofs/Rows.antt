@@ -1,18 +1,18 @@
 -- The rules of a record in the forms in which the functions ask for them: a field with its counters, a row of words, and a row of a table.
 -- Assumes nothing.
-use Prim.Native.Nat.{ℕ, suc, _+_, _-_, _/_, _%_, _≤_, _<_}
-use mathlib.Core.Path.{_≡_, refl, ap, ap₂, sym, _∙_}
-use mathlib.Core.Bool.{Bool, true, false, cond, _&&_, _||_, not, and-false, and-true}
+use Prim.Native.Nat.{ℕ, _+_, _-_, _≤_, _<_}
+use mathlib.Core.Path.{_≡_, refl, ap, sym, _∙_}
+use mathlib.Core.Bool.{Bool, true, false, cond, _&&_, _||_, not, and-false}
 use mathlib.Core.List.{List}
 use mathlib.Core.Logic.{_⊎_, inl, inr}
 use native.Mathlib.Omega.{arith}
 use lib.Dec.{leb, eqb}
-use lib.ListN.{length, take, drop}
+use lib.ListN.{take, drop}
 use borrow.Author.Tests.{leb-true, lt-leb, le-leb, eqb-true, eq-eqb, ne-eqb}
 use Rattle.crdt.proofs.Tests.{test, clash, and-left, and-right}
-use Rattle.crdt.specs.Labels.{largestCounter, isLabel, isCounter, counterOf, replicaOf}
+use Rattle.crdt.specs.Labels.{largestCounter, isLabel, counterOf, replicaOf}
 use Rattle.crdt.specs.Flags.{largestFlag}
-use Rattle.model.specs.Layout.{fields, mostRelations, headWords, blockWords, recordWords, block, base, word, relations, fieldCount, kindAt, clockAt, relationAt, labelAt, flagAt, valueAt, stampAt}
+use Rattle.model.specs.Layout.{fields, headWords, blockWords, recordWords, block, base, word, relations, fieldCount, kindAt, clockAt, relationAt, labelAt, flagAt, valueAt, stampAt}
 use Rattle.model.specs.Lists.{each}
 use Rattle.model.specs.Schemas.{isReference, abortKinds}
 use Rattle.model.specs.WellFormed.{fieldRule, recordRules, countersRule}

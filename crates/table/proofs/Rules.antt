@@ -1,16 +1,16 @@
 -- The rules of a table's header, first indices and end, and the answers of the calls, in the forms in which the functions ask for them.
 -- Assumes nothing.
 use Prim.Native.Nat.{ℕ, zero, suc, _+_, _-_, _≤_, _<_}
-use mathlib.Core.Path.{_≡_, refl, ap, ap₂, sym, _∙_}
+use mathlib.Core.Path.{_≡_, refl, sym, _∙_}
 use mathlib.Core.Bool.{Bool, true, false, cond, _&&_, _||_, not, and-false, and-true, and-assoc}
-use mathlib.Core.List.{List, [], _∷_}
+use mathlib.Core.List.{List, []}
 use native.Mathlib.Omega.{arith}
 use native.Mathlib.Numerals.{add-one}
 use lib.Dec.{leb, eqb}
 use lib.ListN.{length, getD, set, take, drop, replicate, length-replicate, getD-replicate, drop-of-length-le}
 use lib.Seq.{drop-cons, ext-getD, getD-set-same, getD-set-other}
 use borrow.Author.Tests.{leb-true}
-use Rattle.crdt.proofs.Tests.{Tri, low, same, high, tri, test, clash, and-left, and-right, not-true}
+use Rattle.crdt.proofs.Tests.{Tri, low, same, high, tri, clash, and-left, and-right}
 use Rattle.crdt.specs.Labels.{largestCounter, isReplica}
 use Rattle.model.specs.Layout.{fields, mostRelations, firstWords, zeroWord, zeroWords, headWords, replicaWord, word, base, relations, capacityOf, replicaAt, clockAt, usedAt, firstAt}
 use Rattle.model.specs.Lists.{each, all-of, lowest}

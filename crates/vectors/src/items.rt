@@ -19,7 +19,7 @@ pub struct Back {
 
 // Whether the library has the call.
 pub fn runs(call: u64) -> bool {
-    call <= 5
+    call <= 9
 }
 
 pub fn run(
@@ -207,6 +207,67 @@ fn rest(s: &[u8], call: u64, rows: &[u64], taken: Inputs, own: &[u64], third: &[
     }
 }
 
+// The told exit of a slice against its buffer.
+fn with_exit(s: &[u8], back: Back, lent: usize, buffer: &[u64]) -> Back {
+    let told = stream::told_exit(s, back.at, lent, buffer);
+    Back {
+        at: told.at,
+        words: back.words,
+        sum: back.sum,
+        answer: back.answer,
+        good: back.good & told.good,
+    }
+}
+
+fn schema_check(s: &[u8], taken: Inputs, schema: &[u64]) -> Back {
+    let n = stream::words_of(s, taken.schema, schema);
+    let got = schema::schema_check(&schema[0..n]).number();
+    answered(s, taken.at, taken.words, taken.sum, got)
+}
+
+fn table_check(s: &[u8], taken: Inputs, schema: &[u64], own: &[u64]) -> Back {
+    let n = stream::words_of(s, taken.schema, schema);
+    let m = stream::words_of(s, taken.own, own);
+    let got = table::table_check(&schema[0..n], &own[0..m]).number();
+    answered(s, taken.at, taken.words, taken.sum, got)
+}
+
+fn start(s: &[u8], taken: Inputs, own: &mut [u64]) -> Back {
+    let m = stream::words_of(s, taken.own, own);
+    let replica = number(s, taken.at);
+    let got = table::start(&mut own[0..m], replica.value).number();
+    let back = answered(s, replica.at, taken.words, taken.sum, got);
+    with_exit(s, back, taken.own, own)
+}
+
+fn values_of(s: &[u8], taken: Inputs, own: &[u64]) -> Back {
+    let m = stream::words_of(s, taken.own, own);
+    let index = number(s, taken.at);
+    let part = table::values(&own[0..m], index.value as usize);
+    with_part(
+        s,
+        answered(s, index.at, taken.words, taken.sum, is_empty(part)),
+        part,
+    )
+}
+
+// The answer of a part: 1 where it is empty.
+fn is_empty(part: &[u64]) -> u64 {
+    if part.len() == 0 {
+        return 1;
+    }
+    0
+}
+
+// The eight told values against a part; those of an empty part are zeros.
+fn with_part(s: &[u8], back: Back, part: &[u64]) -> Back {
+    let mut sofar = back;
+    for k in 0..8 {
+        sofar = with_result(s, sofar, stream::get(part, k));
+    }
+    sofar
+}
+
 // Runs an item whose slices are in the buffers.
 fn run_loaded(
     s: &[u8],
@@ -218,7 +279,13 @@ fn run_loaded(
     third: &mut [u64],
     values: &[u64],
 ) -> Back {
-    rest(s, call, rows, taken, own, third)
+    match call {
+        6 => schema_check(s, taken, schema),
+        7 => table_check(s, taken, schema, own),
+        8 => start(s, taken, own),
+        9 => values_of(s, taken, own),
+        _ => rest(s, call, rows, taken, own, third),
+    }
 }
 
 // Takes the slices of an item, and runs it.

@@ -1,4 +1,6 @@
 // The stream's numbers and slices. Every function is total: past the end stand zeros.
+ghost use Prim.Native.Nat.{_≤_};
+ghost use lib.ListN.{length};
 
 // A number of the stream, and where the next one begins.
 pub struct Told {
@@ -89,7 +91,9 @@ pub fn after(at: usize) -> usize {
     at
 }
 
-pub fn least(a: u64, b: usize) -> usize {
+pub fn least(a: u64, b: usize) -> usize
+    ensures { λ r. ⌜ r ≤ b ⌝ }
+{
     if a < b as u64 {
         return a as usize;
     }
@@ -167,6 +171,13 @@ pub fn load(s: &[u8], from: Cursor, buffer: &mut [u64]) -> Cursor {
         k += 1;
     }
     c.moved(c.at)
+}
+
+// How many words the slice that begins at an index has in its buffer.
+pub fn words_of(s: &[u8], at: usize, buffer: &[u64]) -> usize
+    ensures { λ r. ⌜ r ≤ length (now (buffer .entry)) ⌝ }
+{
+    least(number(s, at).value, buffer.len())
 }
 
 // Whether the buffer begins with the slice at an index, and where that ends.

@@ -1,0 +1,10 @@
+pub mod Behind
+pub mod Below
+pub mod Wanted
+pub mod Last
+pub mod Steps
+pub mod Given
+pub mod Picks
+pub mod Finish
+pub mod Ends
+pub mod Turns

@@ -1,0 +1,5 @@
+pub mod Targets
+pub mod Grounded
+pub mod Between
+pub mod Rounds
+pub mod Counted
