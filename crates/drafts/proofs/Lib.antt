@@ -5,6 +5,7 @@ pub mod Last
 pub mod Steps
 pub mod Given
 pub mod Picks
+pub mod Few
 pub mod Finish
 pub mod Ends
 pub mod Turns

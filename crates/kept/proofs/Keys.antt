@@ -74,7 +74,7 @@ unfolding valuesConflict
 a-key s r m xs ys x n e = rw (ne-eqb m 0 n) e
 
 -- a comparison reads the values alone
-abbrev valuesOf : List Reg → List ℕ
+abbrev pub valuesOf : List Reg → List ℕ
 valuesOf gs = map (λ (g : Reg). g .value) gs
 
 equal-values : (m : ℕ) (ks : List ℕ) (xs ys : List Reg) → equalOn m ks xs ys ≡ equalOn m ks (registers (valuesOf xs)) (registers (valuesOf ys))
@@ -149,6 +149,14 @@ module _ (s t : List ℕ) (b : broken s ≡ false) (w : wellFormed s t ≡ true)
     kinds-are : described (schemaOf s) (recordOf t i) .kinds ≡ listed (fieldCount s (relationAt t i)) (kindAt s (relationAt t i))
     unfolding relationOf
     kinds-are = ap (λ (q : Relation). q .kinds) described-is
+
+    -- a record of the table and one with the values lent
+    pub lent-on : (m : ℕ) (y : Rec) (vs : List ℕ) → valuesOf (y .cell .regs) ≡ vs
+        → valuesConflict s (relationAt t i) m (valuesAt t i) vs ≡ conflictOn (schemaOf s) m (recordOf t i) y
+    unfolding valuesConflict conflictOn
+    lent-on m y vs e =
+        ap (λ (z : Bool). not (eqb m 0) && z)
+        (sym (equal-values m _ (recordOf t i .cell .regs) (y .cell .regs) ∙ rw (kinds-are, values-are, e)))
 
   -- two records
   module _ (i j : ℕ) (a : 1 ≤ i) (l : i ≤ usedAt t) (p : 1 ≤ j) (q : j ≤ usedAt t) where
