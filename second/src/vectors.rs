@@ -100,7 +100,7 @@ pub const SHAPES: [Shape; 26] = [
     shape("table_check", &[SCHEMA, TABLE], 0, 0, &[], true),
     shape("start", &[TABLE], 1, 0, &[TABLE], true),
     shape("values", &[TABLE], 1, 8, &[], true),
-    shape("merge", &[SCHEMA, TABLE, THIRD], 0, 0, &[TABLE], false),
+    shape("merge", &[SCHEMA, TABLE, THIRD], 0, 0, &[TABLE], true),
     shape("insertion", &[SCHEMA, TABLE, THIRD, VALUES], 1, 1, &[TABLE, THIRD], false),
     shape("update", &[SCHEMA, TABLE, THIRD], 3, 0, &[TABLE, THIRD], false),
     shape("deletion", &[SCHEMA, TABLE, THIRD], 1, 0, &[TABLE, THIRD], false),

@@ -19,7 +19,7 @@ pub struct Back {
 
 // Whether the library has the call.
 pub fn runs(call: u64) -> bool {
-    call <= 9
+    call <= 10
 }
 
 pub fn run(
@@ -268,6 +268,15 @@ fn with_part(s: &[u8], back: Back, part: &[u64]) -> Back {
     sofar
 }
 
+fn merge(s: &[u8], taken: Inputs, schema: &[u64], own: &mut [u64], third: &[u64]) -> Back {
+    let n = stream::words_of(s, taken.schema, schema);
+    let m = stream::words_of(s, taken.own, own);
+    let k = stream::words_of(s, taken.third, third);
+    let got = merge::merge(&schema[0..n], &mut own[0..m], &third[0..k]).number();
+    let back = answered(s, taken.at, taken.words, taken.sum, got);
+    with_exit(s, back, taken.own, own)
+}
+
 // Runs an item whose slices are in the buffers.
 fn run_loaded(
     s: &[u8],
@@ -284,6 +293,7 @@ fn run_loaded(
         7 => table_check(s, taken, schema, own),
         8 => start(s, taken, own),
         9 => values_of(s, taken, own),
+        10 => merge(s, taken, schema, own, third),
         _ => rest(s, call, rows, taken, own, third),
     }
 }

@@ -1,0 +1,5 @@
+pub mod Chain
+pub mod Turns
+pub mod Values
+pub mod Marks
+pub mod Refs
