@@ -4,8 +4,10 @@ use crate::stream;
 use crate::stream::Cursor;
 use crate::stream::Exit;
 use crate::stream::number;
+use answers::MarksAnswer;
 use crdt::Label;
 use crdt::Register;
+use walk::Moved;
 
 // What an item came to: the told answer, whether everything is as told, and the cursor's fields
 // after the item.
@@ -19,7 +21,7 @@ pub struct Back {
 
 // Whether the library has the call.
 pub fn runs(call: u64) -> bool {
-    call <= 10
+    (call <= 10) | (call == 14) | (call == 15)
 }
 
 pub fn run(
@@ -277,6 +279,58 @@ fn merge(s: &[u8], taken: Inputs, schema: &[u64], own: &mut [u64], third: &[u64]
     with_exit(s, back, taken.own, own)
 }
 
+// How many marks are held: a table has at most 4,096 records, and a wrong length a few more.
+const MOST_MARKS: usize = 4100;
+
+fn marks(s: &[u8], taken: Inputs, schema: &[u64], own: &[u64], third: &mut [u64]) -> Back {
+    let mut bytes = [0u8; MOST_MARKS];
+    let n = stream::words_of(s, taken.schema, schema);
+    let m = stream::words_of(s, taken.own, own);
+    let k = stream::least(stream::words_of(s, taken.third, third) as u64, MOST_MARKS);
+    let got = marks_in(&schema[0..n], &own[0..m], third, &mut bytes[0..k]);
+    let back = answered(s, taken.at, taken.words, taken.sum, got.number());
+    with_exit(
+        s,
+        with_result(s, back, got.count() as u64),
+        taken.third,
+        third,
+    )
+}
+
+fn marks_in(schema: &[u64], own: &[u64], third: &mut [u64], bytes: &mut [u8]) -> MarksAnswer {
+    stream::to_bytes(third, bytes);
+    let got = shown::marks(schema, own, bytes);
+    stream::to_words(bytes, third);
+    got
+}
+
+fn walk(s: &[u8], taken: Inputs, schema: &[u64], own: &[u64], third: &[u64]) -> Back {
+    let mut bytes = [0u8; MOST_MARKS];
+    let n = stream::words_of(s, taken.schema, schema);
+    let m = stream::words_of(s, taken.own, own);
+    let k = stream::least(stream::words_of(s, taken.third, third) as u64, MOST_MARKS);
+    let place = number(s, taken.at);
+    let got = walk_in(
+        &schema[0..n],
+        &own[0..m],
+        third,
+        &mut bytes[0..k],
+        place.value,
+    );
+    let answer = got.answer;
+    let back = answered(s, place.at, taken.words, taken.sum, answer.number());
+    with_result(
+        s,
+        with_result(s, back, answer.index() as u64),
+        got.index as u64,
+    )
+}
+
+fn walk_in(schema: &[u64], own: &[u64], third: &[u64], bytes: &mut [u8], place: u64) -> Moved {
+    stream::to_bytes(third, bytes);
+    walk::advance(schema, own, bytes, place as usize)
+}
+
 // Runs an item whose slices are in the buffers.
 fn run_loaded(
     s: &[u8],
@@ -294,6 +348,8 @@ fn run_loaded(
         8 => start(s, taken, own),
         9 => values_of(s, taken, own),
         10 => merge(s, taken, schema, own, third),
+        14 => marks(s, taken, schema, own, third),
+        15 => walk(s, taken, schema, own, third),
         _ => rest(s, call, rows, taken, own, third),
     }
 }

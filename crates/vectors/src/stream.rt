@@ -213,3 +213,16 @@ pub fn told_exit(s: &[u8], at: usize, lent: usize, buffer: &[u64]) -> Exit {
     }
     same(s, marker.at, buffer)
 }
+
+// Puts marks, which the stream holds as words, into bytes.
+pub fn to_bytes(words: &[u64], bytes: &mut [u8]) {
+    for k in 0..bytes.len() {
+        bytes[k] = (get(words, k) % 256) as u8;
+    }
+}
+
+pub fn to_words(bytes: &[u8], words: &mut [u64]) {
+    for k in 0..bytes.len() {
+        put(words, k, wide(bytes[k]));
+    }
+}
