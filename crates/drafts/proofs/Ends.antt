@@ -11,6 +11,7 @@ use lib.Dec.{eqb}
 use lib.ListN.{length, set, replicate, length-set}
 use lib.Seq.{take-length}
 use borrow.Author.Tests.{eq-eqb}
+use Rattle.crdt.specs.Labels.{largestCounter}
 use Rattle.crdt.specs.Flags.{largestFlag, redone, deleted}
 use Rattle.crdt.specs.Cells.{Reg, reg, noReg, joinRegs, Cell, joinCell, joinOpt}
 use Rattle.crdt.proofs.Tests.{or-right}
@@ -157,8 +158,8 @@ module _ (t m : List ℕ) (src : Source t m) (e n : ℕ) (ed : Edited t e n) whe
       unfolding withRegister flagOnly
       X-key f v = refl
 
-      label-some : 0 < newLabel (decode t)
-      label-some = omega (arith, label-new t)
+      label-some : clockAt t < largestCounter → 0 < newLabel (decode t)
+      label-some h = omega (arith, label-new t h (src .replica))
 
       own-redone-at : at (keyOf t e n) (redoing fields (inOrder (decode t .records)) (pickedKeys (decode t .records) m)) ≡ cond (marked m e) (some (flagOnly fields (keyOf t e n) (redone (flagAt t e)) .cell)) none
       own-redone-at = rw (w .is) (own-redone t m src e (w .least) (w .most))
@@ -166,13 +167,13 @@ module _ (t m : List ℕ) (src : Source t m) (e n : ℕ) (ed : Edited t e n) whe
       own-at : (c' : ℕ) (x : Rec) → x .key ≡ keyOf t e n → at (keyOf t e n) (draftOf t c' x m .records) ≡ joinOpt (some (x .cell)) (cond (marked m e) (some (flagOnly fields (keyOf t e n) (redone (flagAt t e)) .cell)) none)
       own-at c' x z = draft-at t m src c' x (keyOf t e n) ∙ ap₂ joinOpt (rw (← z) (own-self x)) own-redone-at
 
-      update-cell : (f v : ℕ) → at (keyOf t e n) (draftOf t (clockAt t + 1) (withRegister (flagOnly fields (keyOf t e n) 0) f (reg v (newLabel (decode t)))) m .records)
+      update-cell : (f v : ℕ) → clockAt t < largestCounter → at (keyOf t e n) (draftOf t (clockAt t + 1) (withRegister (flagOnly fields (keyOf t e n) 0) f (reg v (newLabel (decode t)))) m .records)
           ≡ some (withRegister (flagOnly fields (keyOf t e n) (cond (marked m e) (redone (flagAt t e)) 0)) f (reg v (newLabel (decode t))) .cell)
-      update-cell f v = own-at (clockAt t + 1) (X f v) (X-key f v) ∙ go (marked m e)
+      update-cell f v h = own-at (clockAt t + 1) (X f v) (X-key f v) ∙ go (marked m e)
         where
           go : (c : Bool) → joinOpt (some (withRegister (flagOnly fields (keyOf t e n) 0) f (reg v (newLabel (decode t))) .cell)) (cond c (some (flagOnly fields (keyOf t e n) (redone (flagAt t e)) .cell)) none)
               ≡ some (withRegister (flagOnly fields (keyOf t e n) (cond c (redone (flagAt t e)) 0)) f (reg v (newLabel (decode t))) .cell)
-          go true = unfold joinOpt in ap some (one-met (keyOf t e n) (redone (flagAt t e)) f v (newLabel (decode t)) label-some)
+          go true = unfold joinOpt in ap some (one-met (keyOf t e n) (redone (flagAt t e)) f v (newLabel (decode t)) (label-some h))
           go false = opt-none _
 
       cell-flag : (k f j : ℕ) (g : Reg) → withRegister (flagOnly fields k f) j g .cell .flag ≡ flagOnly fields k f .cell .flag
@@ -184,10 +185,10 @@ module _ (t m : List ℕ) (src : Source t m) (e n : ℕ) (ed : Edited t e n) whe
       cell-regs k f j g = refl
 
       -- an update: one register is written, and the clock rises
-      pub update-words : (f v : ℕ) → 1 ≤ f → f ≤ fields
+      pub update-words : (f v : ℕ) → 1 ≤ f → f ≤ fields → clockAt t < largestCounter
           → set (registered (encode (draftOf t (clockAt t) (flagOnly fields (keyOf t e n) 0) m)) p (f - 1) (reg v (newLabel (decode t)))) clockWord (clockAt t + 1)
           ≡ encode (draftOf t (clockAt t + 1) (withRegister (flagOnly fields (keyOf t e n) 0) f (reg v (newLabel (decode t)))) m)
-      update-words f v x y =
+      update-words f v x y h =
           let g = reg v (newLabel (decode t)) in
           let c = withRegister (flagOnly fields K f₀) f g .cell in
           let here = cell-is _ (held-cell w) in
@@ -197,7 +198,7 @@ module _ (t m : List ℕ) (src : Source t m) (e n : ℕ) (ed : Edited t e n) whe
           one-register (encode v₀) p (f - 1) g ∙ (register-words v₀ draft-sound p a b c small wide (f - 1) g (omega arith)
           (cell-flag K f₀ f g ∙ ap (λ (q : Cell). q .flag) (sym here)) (cell-regs K f₀ f g ∙ ap (λ (q : Cell). set (q .regs) (f - 1) g) (sym here))) in
           ap (λ (d : List ℕ). set d clockWord (clockAt t + 1)) e₁ ∙ clock-words _ (clockAt t + 1)
-          ∙ ap encode (whole (clockAt t + 1) (X f v) _ (finish (clockAt t + 1) (X f v) c (X-key f v) (update-cell f v)))
+          ∙ ap encode (whole (clockAt t + 1) (X f v) _ (finish (clockAt t + 1) (X f v) c (X-key f v) (update-cell f v h)))
 
       -- a deletion: the flag is written
       pub deletion-words : marked m e ≡ false

@@ -25,6 +25,7 @@ use Rattle.laws.proofs.Order.{has-at, isSome}
 use Rattle.laws.proofs.Valid.{true-distinct}
 use Rattle.laws.proofs.Shown.{in-has}
 use Rattle.laws.proofs.Drafts.{redone-flag}
+use Rattle.laws.proofs.Fields.{label-within}
 use Rattle.encoded.proofs.Follow.{Follows, Last, follows}
 use Rattle.drafts.specs.Picked.{draftOf}
 use Rattle.drafts.specs.Drafting.{Source, Edited, held, new, keyOf, wanted, drafted, marked, endOf, appended, stepped}
@@ -45,9 +46,9 @@ unfolding flagOnly joinCell
 flags-joined k f = let e : max 0 f ≡ f = omega arith in let h = none-joined fields in λ i. record { flag = e i; regs = h i }
 
 -- the label of a new record
-pub label-new : (t : List ℕ) → newLabel (decode t) ≡ labelOf (clockAt t + 1) (replicaAt t)
+pub label-new : (t : List ℕ) → clockAt t < largestCounter → isReplica (replicaAt t) ≡ true → newLabel (decode t) ≡ labelOf (clockAt t + 1) (replicaAt t)
 unfolding newLabel decode
-label-new t = refl
+label-new t h g = label-within (clockAt t + 1) (replicaAt t) (omega arith) (omega arith) g
 
 pub replica-bounds : (r : ℕ) → isReplica r ≡ true → (1 ≤ r) × (r ≤ largestReplica)
 replica-bounds r h = (leb-true 1 r (and-left (leb 1 r) (leb r largestReplica) h), leb-true r largestReplica (and-right (leb 1 r) (leb r largestReplica) h))
@@ -101,7 +102,7 @@ module _ (t m : List ℕ) (src : Source t m) where
   kind e n (held a b c) = inl (record { least = a; most = b; is = key-held t e n a; has = rw (key-held t e n a) (recs-has t e a b); named = c })
   kind e n (new z a b c) =
       let r = replica-bounds (replicaAt t) (src .replica) in
-      let q = label-new t in
+      let q = label-new t c (src .replica) in
       let y : keyOf t e n ≡ place n (newLabel (decode t)) = rw z (key-new t n) in
       inr (record { least = a; most = b; clock = c; above = omega arith; below = omega arith; is = y; label = omega arith; one = omega arith; index = z })
 
@@ -142,7 +143,7 @@ module _ (t m : List ℕ) (src : Source t m) where
       go : (has (decode t .records) (keyOf t e n) ≡ true) ⊎ (has (decode t .records) (keyOf t e n) ≡ false) → has (decode t .records) (keyOf t e n) ≡ false
       go (inl h) =
           let o = own-key (keyOf t e n) h in
-          absurd (omega (arith, o .placed, o .below, o .span, w .is, w .label, label-new t))
+          absurd (omega (arith, o .placed, o .below, o .span, w .is, w .label, label-new t (w .clock) (src .replica)))
       go (inr h) = h
 
   pub no-zero-key : has (decode t .records) 0 ≡ false
@@ -417,7 +418,7 @@ module _ (t m : List ℕ) (src : Source t m) where
           go (inr w) =
               let l = newLabel (decode t) in
               let k : keyOf t e n ≡ place r (newLabel (decode t)) = w .is ∙ rw z in
-              let c : drafted t (keyOf t e n) m (endOf t r) ≡ drafted t (keyOf t e n) m (place r l) = drafted-gap (endOf t r) (place r l) (omega (arith, label-new t)) (λ j x y h. before j x y (wanted-has j h)) in
+              let c : drafted t (keyOf t e n) m (endOf t r) ≡ drafted t (keyOf t e n) m (place r l) = drafted-gap (endOf t r) (place r l) (omega (arith, label-new t (w .clock) (src .replica))) (λ j x y h. before j x y (wanted-has j h)) in
               let d : drafted t (keyOf t e n) m (suc (place r l)) ≡ drafted t (keyOf t e n) m (place (r + 1) 0) = drafted-gap (suc (place r l)) (place (r + 1) 0) (omega (arith, w .label)) (λ j x y h. after j x y (wanted-has j h)) in
               ap (λ (v : Table). appended (encode v) r l 0) c ∙ drafted-append r l 0 a b (w .one) (w .label) (omega arith) (rw (← k) (wanted-new w)) ∙ ap encode d
             where
@@ -426,7 +427,7 @@ module _ (t m : List ℕ) (src : Source t m) where
               before j x y (inr p) = omega (arith, p, w .is, z)
 
               after : (j : ℕ) → suc (place r (newLabel (decode t))) ≤ j → j < place (r + 1) 0 → (has (decode t .records) j ≡ true) ⊎ (j ≡ keyOf t e n) → ⊥
-              after j x y (inl p) = let o = own-key j p in omega (arith, o .placed, o .below, o .span, label-new t)
+              after j x y (inl p) = let o = own-key j p in omega (arith, o .placed, o .below, o .span, label-new t (w .clock) (src .replica))
               after j x y (inr p) = omega (arith, p, w .is, z)
 
     -- the walk begins with no records, and ends with all

@@ -146,10 +146,8 @@ module _ (t m : List ℕ) (src : Source t m) (e n : ℕ) (ed : Edited t e n) whe
 
 -- the label of a new record
 pub label-within : (t : List ℕ) (c r : ℕ) → clockAt t < largestCounter → isReplica (replicaAt t) ≡ true → c ≡ clockAt t → r ≡ replicaAt t → labelWithin (c + 1) r ≡ newLabel (decode t)
-unfolding labelWithin
-label-within t c r h g x y =
-    let z : (isCounter (clockAt t + 1) && isReplica (replicaAt t)) ≡ true = and-both (isCounter (clockAt t + 1)) (isReplica (replicaAt t)) (and-both (leb 1 (clockAt t + 1)) (leb (clockAt t + 1) largestCounter) (le-leb 1 (clockAt t + 1) (omega arith)) (le-leb (clockAt t + 1) largestCounter (omega arith))) g in
-    rw (x, y, z) (sym (label-new t))
+unfolding newLabel decode
+label-within t c r h g x y = rw (x, y) refl
 
 -- the search for a record
 pub found-not : (d : List ℕ) (r l i : ℕ) (f : Findable d r l) (b : Bool) → b ≡ (eqb (relationAt d i) r && eqb (labelAt d i) l) → b ≡ false → i ≢ f .index
@@ -266,10 +264,10 @@ module _ (s t d m : List ℕ) where
       found-in : p ≤ length (draftOf t (clockAt t) (flagOnly fields (keyOf t i 0) 0) m .records)
       found-in = found-within (draftOf t (clockAt t) (flagOnly fields (keyOf t i 0) 0) m) (relationAt t i) (labelAt t i) p found
 
-      pub update-done : (g v : ℕ) → 1 ≤ g → g ≤ fields → (d₂ d₃ : List ℕ) (n c : ℕ) → n ≡ newLabel (decode t) → d₂ ≡ registered d₁ p (g - 1) (reg v n) → c ≡ clockAt t → d₃ ≡ set d₂ clockWord (c + 1)
+      pub update-done : (g v : ℕ) → 1 ≤ g → g ≤ fields → clockAt t < largestCounter → (d₂ d₃ : List ℕ) (n c : ℕ) → n ≡ newLabel (decode t) → d₂ ≡ registered d₁ p (g - 1) (reg v n) → c ≡ clockAt t → d₃ ≡ set d₂ clockWord (c + 1)
           → d₃ ≡ encode (draftOf t (clockAt t + 1) (withRegister (flagOnly fields (recordOf t i .key) 0) g (reg v (newLabel (decode t)))) m)
-      update-done g v x y d₂ d₃ n c e₄ e₅ e₆ e₇ =
-          let w = update-words t m src i 0 ed p (found .least) found-in found-is held-key g v x y in
+      update-done g v x y h d₂ d₃ n c e₄ e₅ e₆ e₇ =
+          let w = update-words t m src i 0 ed p (found .least) found-in found-is held-key g v x y h in
           e₇ ∙ rw (e₅, e₁, e₄, e₆) (w ∙ ap (λ (k : ℕ). encode (draftOf t (clockAt t + 1) (withRegister (flagOnly fields k 0) g (reg v (newLabel (decode t)))) m)) (key-held t i 0 a))
 
       pub deletion-done : marked m i ≡ false → (d₂ : List ℕ) (k o : ℕ) → k ≡ base p → o ≡ deleted (flagAt t i) → d₂ ≡ set d₁ (k + 3) o

@@ -6,6 +6,7 @@ use mathlib.Core.Bool.{false, cond, _&&_}
 use mathlib.Core.List.{List, [], _∷_, List·Memᴰ·head, List·Memᴰ·tail}
 use native.Mathlib.Omega.{arith}
 use lib.ListN.{length, getD}
+use Rattle.crdt.specs.Labels.{largestCounter}
 use Rattle.crdt.specs.Flags.{largestFlag, isOdd, redone}
 use Rattle.crdt.proofs.Tests.{and-left}
 use Rattle.crdt.specs.Cells.{Reg, reg, noReg, joinReg}
@@ -14,15 +15,16 @@ use Rattle.model.specs.Schemas.{schemaOf}
 use Rattle.model.specs.Records.{Rec, labelSpan, relation, label, own, at, inOrder}
 use Rattle.model.specs.Tables.{Table, decode}
 use Rattle.model.specs.Merge.{joinedWith, mergedRecords, merged}
-use Rattle.model.specs.Edits.{Edit, deltaOf, flagIn, flagOf, odd, redoing, spent}
+use Rattle.model.specs.Edits.{Edit, deltaOf, newLabel, flagIn, flagOf, odd, redoing, spent}
 use Rattle.laws.proofs.Lists.{_∈_}
 use Rattle.laws.proofs.Order.{at-order}
 use Rattle.laws.proofs.Members.{at-member}
 use Rattle.laws.proofs.Valid.{ValidRecord}
+use Rattle.laws.proofs.Fields.{label-within}
 use Rattle.encoded.proofs.Follow.{noRec, recordAt}
 use Rattle.decoded.proofs.Facts.{table-sized}
 use Rattle.runs.proofs.Tables.{Good, good-valid, Left}
-use Rattle.effects.specs.Effects.{keyAt, Redone, Named}
+use Rattle.effects.specs.Effects.{keyAt, nextLabel, Redone, Named}
 use Rattle.effects.proofs.Joins.{regsIn, among, changed-flag, changed-regs}
 use Rattle.effects.proofs.Flags.{among-odd, not-spent, redone-law}
 use Rattle.effects.proofs.Words.{used-is, Reads, reads}
@@ -45,6 +47,11 @@ capacity-is t = refl
 pub replica-is : (t : List ℕ) → replicaAt t ≡ decode t .replica
 unfolding decode
 replica-is t = refl
+
+-- the new label, where the clock has a counter left
+pub next-is : (s t : List ℕ) → Good s t → clockAt t + 1 ≤ largestCounter → newLabel (decode t) ≡ nextLabel t
+unfolding newLabel decode
+next-is s t g h = label-within (clockAt t + 1) (replicaAt t) (omega arith) h (rw (replica-is t) (good-valid s t g .replica))
 
 -- record n of a good table: it is valid, and its flag is the one held under its key
 module _ (s t : List ℕ) (g : Good s t) (n : ℕ) (a : 1 ≤ n) (b : n ≤ usedAt t) where

@@ -38,7 +38,7 @@ use Rattle.effects.specs.Effects.{keyAt, nextLabel, Redone, Kept, Fresh,
 use Rattle.effects.proofs.Joins.{none-at, reg-none}
 use Rattle.effects.proofs.Words.{used-is, record-is, Reads, reads}
 use Rattle.effects.proofs.Positions.{merged-size, added-at, one-new, redone-old}
-use Rattle.effects.proofs.Changes.{clock-is, replica-is, held-valid, redoes, Changed, after-records, after-clock, after-replica, after-size, after-changed}
+use Rattle.effects.proofs.Changes.{clock-is, replica-is, next-is, held-valid, redoes, Changed, after-records, after-clock, after-replica, after-size, after-changed}
 
 -- the registers of the new record
 stamped-at : (l : ℕ) (vs : List ℕ) (n j : ℕ) → j < length vs → getD (stampedBy l vs n) j noReg ≡ reg (getD vs j 0) l
@@ -100,8 +100,8 @@ module _ (s t t′ : List ℕ) (r : ℕ) (vs : List ℕ) (g : Good s t) (ck : Ch
   counter = new-counter (clockAt t + 1) (replicaAt t) (rw (replica-is t) (good-valid s t g .replica))
 
   x-key : x .key ≡ place r (nextLabel t)
-  unfolding x newRecord newLabel decode
-  x-key = refl
+  unfolding x newRecord
+  x-key = ap (place r) (next-is s t g (ck .clock))
 
   x-relation : relation x ≡ r
   x-relation = ap (λ (k : ℕ). k / labelSpan) x-key ∙ place-relation r (nextLabel t) (label-below (nextLabel t) labelled)
@@ -151,8 +151,8 @@ module _ (s t t′ : List ℕ) (r : ℕ) (vs : List ℕ) (g : Good s t) (ck : Ch
   x-flag = refl
 
   x-regs : x .cell .regs ≡ stampedBy (nextLabel t) vs (fields - length vs)
-  unfolding x newRecord newLabel decode
-  x-regs = refl
+  unfolding x newRecord
+  x-regs = ap (λ (n : ℕ). stampedBy n vs (fields - length vs)) (next-is s t g (ck .clock))
 
   x-reg : (j : ℕ) → 1 ≤ j → j ≤ fieldCount s r → getD (x .cell .regs) (j - 1) noReg ≡ reg (getD vs (j - 1) 0) (nextLabel t)
   x-reg j a b = rw x-regs (stamped-at (nextLabel t) vs (fields - length vs) (j - 1) (omega (arith, ck .count)))
@@ -221,12 +221,18 @@ insertion-draft : (s t : List ℕ) (r : ℕ) (vs : List ℕ) → Good s t → lo
 unfolding insertionOf
 insertion-draft s t r vs g h = insertion-drafted (narrow s (g .sound)) (omega arith) (decode t) (good-valid s t g) r vs h
 
-label-back : (s t d : List ℕ) (r : ℕ) (vs : List ℕ) → insertionNumber s t d r vs ≡ 0 → insertionLabel s t d r vs ≡ nextLabel t
+label-back : (s t d : List ℕ) (r : ℕ) (vs : List ℕ) → insertionNumber s t d r vs ≡ 0 → newLabel (decode t) ≡ nextLabel t → insertionLabel s t d r vs ≡ nextLabel t
 unfolding insertionLabel
-label-back s t d r vs h = rw h (unfold insertionOf insertion newLabel decode in refl)
+label-back s t d r vs h e = rw h (unfold insertionOf insertion in e)
+
+label-next : (s t d : List ℕ) (r : ℕ) (vs : List ℕ) → insertionNumber s t d r vs ≡ 0 → newLabel (decode t) ≡ nextLabel t
+unfolding insertionNumber
+label-next s t d r vs h =
+    let g = edit-good false s t d (insertionOf s t r vs) (insertion-checks s t r vs) h in
+    next-is s t (g .0) (checked s t r vs (g .0) (g .1) .clock)
 
 pub insertion-effect : (s t d : List ℕ) (r : ℕ) (vs : List ℕ) → insertionNumber s t d r vs ≡ 0 → Inserted s t (insertionTable s t d r vs) r vs (insertionLabel s t d r vs)
-insertion-effect s t d r vs h = rw (label-back s t d r vs h) (go h)
+insertion-effect s t d r vs h = rw (label-back s t d r vs h (label-next s t d r vs h)) (go h)
   where
     go : insertionNumber s t d r vs ≡ 0 → Inserted s t (insertionTable s t d r vs) r vs (nextLabel t)
     go q =

@@ -11,7 +11,7 @@ use lib.Dec.{eqb, leb}
 use lib.ListN.{length, getD, set, replicate, length-replicate}
 use lib.Seq.{getD-set-same, getD-set-other}
 use borrow.Author.Tests.{eqb-true, eqb-false, eq-eqb, leb-true, not-false as unnot}
-use Rattle.crdt.specs.Labels.{counterOf}
+use Rattle.crdt.specs.Labels.{largestCounter, counterOf}
 use Rattle.crdt.specs.Cells.{Reg, reg, noReg, joinReg}
 use Rattle.crdt.proofs.Tests.{test, and-left, and-right}
 use Rattle.model.specs.Layout.{fields, relations, fieldCount, kindAt, clockAt, usedAt, relationAt, flagAt, valueAt, stampAt}
@@ -37,7 +37,7 @@ use Rattle.effects.proofs.Joins.{none-at, reg-none, newer, regsIn, amon
 use Rattle.effects.proofs.Words.{used-is, record-is, Reads, reads}
 use Rattle.effects.proofs.Flags.{among-only, among-append}
 use Rattle.effects.proofs.Positions.{merged-size, none-new, all-old}
-use Rattle.effects.proofs.Changes.{redoes, Changed, after-records, after-clock, after-replica, after-size, after-changed}
+use Rattle.effects.proofs.Changes.{clock-is, next-is, redoes, Changed, after-records, after-clock, after-replica, after-size, after-changed}
 use Rattle.effects.proofs.Beside.{beside}
 use Rattle.effects.proofs.Indices.{index-good, index-bounds, edit-record, other-key}
 
@@ -91,6 +91,7 @@ record Checked (s t : List ℕ) (i f new : ℕ) : Type 0 where
   least : 1 ≤ f
   most : f ≤ fields
   within : f ≤ fieldCount s (relationAt t i)
+  clock : clockAt t + 1 ≤ largestCounter
   free : spent (inOrder (decode t .records)) (odd (inOrder (decode t .records)) (aims s t i new (getD (described (schemaOf s) (recordOf t i) .kinds) (f - 1) 0) (registerAt (recordOf t i) f .value))) ≡ false
 
 module _ (s t : List ℕ) (i f new : ℕ) (g : Good s t) (a : 1 ≤ i) (b : i ≤ usedAt t) where
@@ -100,8 +101,8 @@ module _ (s t : List ℕ) (i f new : ℕ) (g : Good s t) (a : 1 ≤ i) (b : i �
   before : ℕ
   before = registerAt (recordOf t i) f .value
 
-  changes : updateOf s t i f new .changed ≡ withRegister (flagOnly fields (keyAt t i) 0) f (reg new (nextLabel t)) ∷ redoing fields (inOrder (decode t .records)) (odd (inOrder (decode t .records)) (aims s t i new kind before))
-  unfolding updateOf update updateRedoes aims kind before newLabel
+  changes : updateOf s t i f new .changed ≡ withRegister (flagOnly fields (keyAt t i) 0) f (reg new (newLabel (decode t))) ∷ redoing fields (inOrder (decode t .records)) (odd (inOrder (decode t .records)) (aims s t i new kind before))
+  unfolding updateOf update updateRedoes aims kind before
   changes = rw (edit-record s t g i a b) (unfold recordOf decode in refl)
 
   -- the relation of the record is one of the schema
@@ -133,6 +134,7 @@ module _ (s t : List ℕ) (i f new : ℕ) (g : Good s t) (a : 1 ≤ i) (b : i �
         least = lo;
         most = omega arith;
         within = omega arith;
+        clock = let n : decode t .clock ≡ largestCounter → ⊥ = eqb-false _ _ (p .1 .1 .1 .1 .0) in omega (arith, clock-is t, good-valid s t g .clock);
         free = unfold recordOf aims in (rw e at (p .1 .1 .1 .1 .1 .0));
       }
 
@@ -148,7 +150,7 @@ module _ (s t : List ℕ) (i f new : ℕ) (g : Good s t) (a : 1 ≤ i) (b : i �
 
     ch : updateOf s t i f new .changed ≡ x ∷ redoing fields (inOrder (decode t .records)) ks
     unfolding v x ks
-    ch = changes
+    ch = changes ∙ ap (λ (n : ℕ). withRegister (flagOnly fields (keyAt t i) 0) f (reg new n) ∷ redoing fields (inOrder (decode t .records)) (odd (inOrder (decode t .records)) (aims s t i new kind before))) (next-is s t g (ck .clock))
 
     kind-is′ : kind ≡ kindAt s (relationAt t i) f
     unfolding kind

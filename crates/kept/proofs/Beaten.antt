@@ -1,18 +1,17 @@
 -- Step 3 by marks and chains: a record is beaten if one before it in its chain stands and conflicts with it.
 -- Assumes nothing.
-use Prim.Native.Nat.{ℕ, _+_, _*_, _-_, _≤_, _<_}
+use Prim.Native.Nat.{ℕ, _-_, _≤_, _<_}
 use mathlib.Core.Path.{_≡_, refl, sym, _∙_, ap}
 use mathlib.Core.Logic.{_⊎_, inl, inr}
-use mathlib.Core.Bool.{Bool, true, false, cond, _&&_, _||_, not}
+use mathlib.Core.Bool.{Bool, true, false, _&&_, _||_, not}
 use mathlib.Core.List.{List}
 use native.Mathlib.Omega.{arith}
 use lib.Dec.{eqb, ltb}
-use lib.ListN.{getD}
 use borrow.Author.Tests.{eqb-true, eqb-false, ltb-true, lt-ltb}
 use Rattle.crdt.proofs.Tests.{Tri, low, same, high, tri, test, clash, and-left, and-right, and-both, not-true, not-false}
 use Rattle.model.specs.Layout.{usedAt, firstAt, nextAt, relationAt, labelAt}
 use Rattle.model.specs.Schemas.{Relation, broken, schemaOf}
-use Rattle.model.specs.Records.{Rec, labelSpan, place, relation, has, inOrder}
+use Rattle.model.specs.Records.{Rec, relation, has, inOrder}
 use Rattle.model.specs.Tables.{recordOf, decode}
 use Rattle.model.specs.WellFormed.{wellFormed}
 use Rattle.model.specs.Shown.{conflictOn, conflict, described, standing, beaten, kept}
@@ -21,10 +20,10 @@ use Rattle.laws.proofs.Shown.{standing-in, kept-in}
 use Rattle.decoded.proofs.Facts.{schema-sound, formed}
 use Rattle.decoded.proofs.Values.{relation-is}
 use Rattle.marking.specs.Marks.{isMarked}
-use Rattle.marking.proofs.Members.{in-record, record-in, held, holds}
+use Rattle.marking.proofs.Members.{in-record, held, holds}
 use Rattle.marking.proofs.Chain.{On, Before, first-on, first-before, next-on, next-before, own-relation, one-label}
 use Rattle.resolved.specs.Resolved.{Marked}
-use Rattle.kept.proofs.Listed.{mark, marked-has, unmarked-has, member-marked, marked-member}
+use Rattle.kept.proofs.Listed.{mark, member-marked, marked-member}
 
 -- the order of keys of one relation is that of labels
 key-less : (t : List ℕ) (i j : ℕ) → relationAt t j ≡ relationAt t i → labelAt t j < labelAt t i → recordOf t j .key < recordOf t i .key

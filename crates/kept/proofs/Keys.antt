@@ -1,6 +1,6 @@
 -- The key comparison field by field, and the values of a table's records as registers.
 -- Assumes nothing.
-use Prim.Native.Nat.{ℕ, zero, suc, _+_, _-_, _/_, _%_, _≤_, _<_}
+use Prim.Native.Nat.{ℕ, suc, _+_, _-_, _/_, _%_, _≤_, _<_}
 use mathlib.Core.Path.{_≡_, refl, sym, _∙_, ap, ap₂}
 use mathlib.Core.Bool.{Bool, true, false, _&&_, _||_, not}
 use mathlib.Core.List.{List, [], _∷_, map}
@@ -11,19 +11,19 @@ use lib.Dec.{eqb}
 use lib.ListN.{length, getD, take, drop, length-take, length-drop}
 use lib.Seq.{drop-cons}
 use borrow.Author.Tests.{eq-eqb, ne-eqb}
-use Rattle.crdt.specs.Cells.{Reg, reg, Cell}
+use Rattle.crdt.specs.Cells.{Reg, reg}
 use Rattle.crdt.proofs.Tests.{clash}
-use Rattle.model.specs.Layout.{fields, headWords, word, base, relations, fieldCount, kindAt, maskAt, capacityOf, usedAt, relationAt, labelAt, valueAt, stampAt}
+use Rattle.model.specs.Layout.{fields, headWords, word, base, relations, fieldCount, kindAt, maskAt, capacityOf, usedAt, relationAt, valueAt, stampAt}
 use Rattle.model.specs.Lists.{from, listed}
 use Rattle.model.specs.Schemas.{Relation, noRelation, isReference, broken, relationOf, schemaOf, relationNumbered}
 use Rattle.model.specs.Records.{Rec, relation}
 use Rattle.model.specs.Tables.{recordOf}
 use Rattle.model.specs.WellFormed.{wellFormed}
-use Rattle.model.specs.Shown.{described, value, rest, equalOn, conflictOn, conflict}
+use Rattle.model.specs.Shown.{described, value, equalOn, conflictOn, conflict}
 use Rattle.encoded.proofs.Ranges.{listed-at}
 use Rattle.decoded.proofs.Ranges.{map-from, span}
 use Rattle.decoded.proofs.Facts.{Sound, schema-sound, Formed, formed, Ruled, ruled}
-use Rattle.decoded.proofs.Values.{kinds-of, relation-is}
+use Rattle.decoded.proofs.Values.{relation-is}
 use Rattle.layout.proofs.Stride.{capacity-in}
 use Rattle.kept.specs.Keys.{registers, valuesConflict, valuesAt}
 

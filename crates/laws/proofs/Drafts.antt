@@ -30,7 +30,7 @@ use Rattle.laws.proofs.Members.{absent, at-key, rising-distinct, order-
 use Rattle.laws.proofs.Merge.{new}
 use Rattle.laws.proofs.Valid.{ValidRecord, Valid, record-more, order-valid}
 use Rattle.laws.proofs.Checks.{passed}
-use Rattle.laws.proofs.Fields.{label-below, place-relation, place-label, new-label, new-counter, field-stamped, fields-none, under-none, stampedBy, values-length, stamped-length, fields-stamped, under-stamped, value-under, fields-one, under-one}
+use Rattle.laws.proofs.Fields.{label-below, place-relation, place-label, new-label, label-within, new-counter, field-stamped, fields-none, under-none, stampedBy, values-length, stamped-length, fields-stamped, under-stamped, value-under, fields-one, under-one}
 
 -- what is shown is held
 pub shown-in : (σ : List Relation) (c : List Rec) (x : Rec) → x ∈ shown σ c → x ∈ c
@@ -261,13 +261,15 @@ module _ {w : ℕ} {σ : List Relation} (narrow : (r : ℕ) → length (relation
   shown-bound : (d : ℕ) → v .clock ≤ d → (k : ℕ) → has (shown σ c) k ≡ true → counterOf (k % labelSpan) ≤ d
   shown-bound d l k h = omega (arith, known k (shown-has σ c k h) .counted)
 
-  stamp-label : v .clock + 1 ≤ largestCounter → isLabel (newLabel v) ≡ true
+  stamp-is : v .clock + 1 ≤ largestCounter → newLabel v ≡ labelOf (v .clock + 1) (v .replica)
   unfolding newLabel
-  stamp-label h = new-label (v .clock + 1) (v .replica) (omega arith) h (good .replica)
+  stamp-is h = label-within (v .clock + 1) (v .replica) (omega arith) h (good .replica)
 
-  stamp-counter : counterOf (newLabel v) ≡ v .clock + 1
-  unfolding newLabel
-  stamp-counter = new-counter (v .clock + 1) (v .replica) (good .replica)
+  stamp-label : v .clock + 1 ≤ largestCounter → isLabel (newLabel v) ≡ true
+  stamp-label h = rw (stamp-is h) (new-label (v .clock + 1) (v .replica) (omega arith) h (good .replica))
+
+  stamp-counter : v .clock + 1 ≤ largestCounter → counterOf (newLabel v) ≡ v .clock + 1
+  stamp-counter h = rw (stamp-is h) (new-counter (v .clock + 1) (v .replica) (good .replica))
 
   -- what an accepted edit knows of the flags to be redone, and of the new label
   pub flags-below : (ks : List ℕ) → spent (inOrder (v .records)) ks ≡ false → (k : ℕ) → k ∈ ks → flagOf (inOrder (v .records)) k < largestFlag
@@ -299,8 +301,8 @@ module _ {w : ℕ} {σ : List Relation} (narrow : (r : ℕ) → length (relation
         flagged = omega arith;
         wide = stamped-length (newLabel v) vs (w - length vs) ∙ omega (arith, k, narrow r);
         fielded = rw e (fields-stamped (newLabel v) _ vs (w - length vs) n q);
-        counted = rw e′ (omega (arith, stamp-counter));
-        under = rw e (under-stamped (has (shown σ c)) (v .clock + 1) (shown-bound (v .clock + 1) (omega arith)) (newLabel v) _ vs (w - length vs) (omega (arith, stamp-counter)) q s′);
+        counted = rw e′ (omega (arith, stamp-counter h));
+        under = rw e (under-stamped (has (shown σ c)) (v .clock + 1) (shown-bound (v .clock + 1) (omega arith)) (newLabel v) _ vs (w - length vs) (omega (arith, stamp-counter h)) q s′);
       }
 
   targets-few : (p : ℕ → Bool) (x : Rec) → length (targets σ p x) ≤ w
@@ -371,7 +373,7 @@ module _ {w : ℕ} {σ : List Relation} (narrow : (r : ℕ) → length (relation
         fielded = fields-one ks w (f - 1) g (narrow (key / labelSpan)) j (field-stamped _ new (newLabel v) label q);
         counted = omega (arith, n .counted);
         under =
-            under-one (v .clock + 1) ks w (f - 1) g (le-leb (counterOf (newLabel v)) (v .clock + 1) (omega (arith, stamp-counter)))
+            under-one (v .clock + 1) ks w (f - 1) g (le-leb (counterOf (newLabel v)) (v .clock + 1) (omega (arith, stamp-counter h)))
             (value-under (has (shown σ c)) (v .clock + 1) (shown-bound (v .clock + 1) (omega arith)) (getD ks (f - 1) 0) new q (λ p z. first (getD ks (f - 1) 0) p z s));
       }
     where

@@ -9,7 +9,7 @@ use native.Mathlib.Omega.{arith}
 use lib.Dec.{eqb, leb}
 use lib.ListN.{length, getD, set, replicate, length-append, length-replicate, length-set}
 use borrow.Author.Tests.{eqb-true, eqb-false, leb-true, le-leb, ne-eqb}
-use Rattle.crdt.specs.Labels.{largestCounter, largestReplica, labelOf, isCounter, isReplica, isLabel, counterOf, replicaOf}
+use Rattle.crdt.specs.Labels.{largestCounter, largestReplica, labelOf, labelWithin, isCounter, isReplica, isLabel, counterOf, replicaOf}
 use Rattle.crdt.specs.Cells.{Reg, reg, noReg}
 use Rattle.crdt.proofs.Tests.{test, clash, not-true, not-false, and-left, and-right, and-both, or-cases, or-left, or-right}
 use Rattle.model.specs.Lists.{all-of}
@@ -59,6 +59,10 @@ new-label c r l m h =
     let p : 1 ≤ r = leb-true 1 r (and-left (leb 1 r) _ h) in
     let q : r ≤ largestReplica = leb-true r largestReplica (and-right (leb 1 r) _ h) in
     true-label (labelOf c r) (record { least = omega arith; most = omega arith; replica = omega arith })
+
+pub label-within : (c r : ℕ) → 1 ≤ c → c ≤ largestCounter → isReplica r ≡ true → labelWithin c r ≡ labelOf c r
+unfolding labelWithin
+label-within c r l m h = let e : (isCounter c && isReplica r) ≡ true = and-both (isCounter c) (isReplica r) (and-both (leb 1 c) (leb c largestCounter) (le-leb 1 c l) (le-leb c largestCounter m)) h in rw e
 
 pub new-counter : (c r : ℕ) → isReplica r ≡ true → counterOf (labelOf c r) ≡ c
 new-counter c r h = let q : r ≤ largestReplica = leb-true r largestReplica (and-right (leb 1 r) _ h) in omega arith

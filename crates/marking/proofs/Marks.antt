@@ -1,14 +1,14 @@
 -- A mark by its byte.
 -- Assumes nothing.
 use Prim.Native.Nat.{ℕ, _-_, _≤_, _<_}
-use mathlib.Core.Path.{_≡_, refl, sym, _∙_, ap}
-use mathlib.Core.Bool.{Bool, true, false, _&&_, not}
+use mathlib.Core.Path.{_≡_, sym, _∙_}
+use mathlib.Core.Bool.{true, false, not}
 use mathlib.Core.List.{List}
 use native.Mathlib.Omega.{arith}
 use lib.Dec.{eqb}
 use lib.ListN.{length, getD, List·getD-eq-default}
 use borrow.Author.Tests.{eqb-true, eqb-false, eq-eqb, ne-eqb}
-use Rattle.crdt.proofs.Tests.{and-left, and-right, and-both, not-true}
+use Rattle.crdt.proofs.Tests.{and-left, and-right, not-true}
 use Rattle.marking.specs.Marks.{isMarked}
 
 module _ (m : List ℕ) (i : ℕ) where

@@ -7,7 +7,7 @@ use mathlib.Core.List.{List, [], _∷_, _++_, map}
 use mathlib.Core.Option.{Option, none, some}
 use lib.Dec.{eqb, leb}
 use lib.ListN.{length, getD, set, replicate}
-use Rattle.crdt.specs.Labels.{largestCounter, labelOf, isLabel}
+use Rattle.crdt.specs.Labels.{largestCounter, labelWithin, isLabel}
 use Rattle.crdt.specs.Flags.{largestFlag, isOdd, deleted, redone}
 use Rattle.crdt.specs.Cells.{Reg, reg, noReg, Cell}
 use Rattle.model.specs.Lists.{only, some-of, all-of, Check, check}
@@ -33,9 +33,9 @@ deltaOf w v e = record { capacity = w + 1; replica = v .replica; clock = e .cloc
 unfoldable pub editedBy : ℕ → Table → Edit → Table
 editedBy w v e = merged v (deltaOf w v e)
 
--- "the new label is clock + 1 with the own replica number"
+-- "the new label is clock + 1 with the own replica number"; 0 where the clock is the largest counter, which check 12 refuses.
 unfoldable pub newLabel : Table → ℕ
-newLabel v = labelOf (v .clock + 1) (v .replica)
+newLabel v = labelWithin (v .clock + 1) (v .replica)
 
 abbrev pub flagIn : Option Cell → ℕ
 flagIn none = 0

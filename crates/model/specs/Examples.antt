@@ -6,7 +6,7 @@ use mathlib.Core.List.{List, [], _∷_, _++_, map}
 use mathlib.Core.Option.{Option, none, some}
 use lib.Dec.{eqb, leb}
 use lib.ListN.{length, replicate}
-use Rattle.crdt.specs.Labels.{labelOf}
+use Rattle.crdt.specs.Labels.{largestCounter, labelOf}
 use Rattle.crdt.specs.Cells.{Reg, Cell}
 use Rattle.model.specs.Layout.{headerWords, recordWords, deltaWords, usedAt}
 use Rattle.model.specs.Lists.{some-of, all-of}
@@ -175,3 +175,13 @@ hops =
     let c : ℕ = labelOf 3 1 in
     let t = header 3 3 (1 ∷ []) ++ (row 2 1 a 1 (0 ∷ []) (a ∷ []) ++ (row 3 1 b 1 (a ∷ []) (b ∷ []) ++ row 0 1 c 0 (b ∷ []) (c ∷ []))) in
     eqb (tableNumber chainSchema t) 0 && eqb (length (shownList chainSchema t)) 3
+
+-- At the largest clock there is no new label, and checks still run in number order: a milking of an unknown cow gives 8, a group of a known
+-- name 9, any other group 12.
+unfoldable pub lastClock : Bool
+unfolding header row buffer
+lastClock =
+    let g : ℕ = labelOf 1 1 in
+    let t = header largestCounter 1 (1 ∷ []) ++ (row 0 1 g 0 (12 ∷ []) (g ∷ []) ++ replicate recordWords 0) in
+    eqb (tableNumber herd t) 0 && eqb (insertionNumber herd t buffer 3 (labelOf 9 9 ∷ 5 ∷ [])) 8 && eqb (insertionNumber herd t buffer 1 (12 ∷ [])) 9
+    && eqb (insertionNumber herd t buffer 1 (13 ∷ [])) 12

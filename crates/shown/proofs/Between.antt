@@ -1,7 +1,7 @@
 -- Marks between the shown records and the kept ones: dropping a record that is not grounded leaves them there, and where every marked
 -- record is grounded they are the shown ones.
 -- Assumes nothing.
-use Prim.Native.Nat.{ℕ, suc, _-_, _≤_, _<_}
+use Prim.Native.Nat.{ℕ, _-_, _≤_, _<_}
 use mathlib.Core.Path.{_≡_, refl, sym, _∙_, ap}
 use mathlib.Core.Logic.{_⊎_, inl, inr}
 use mathlib.Core.Bool.{Bool, true, false, cond, _&&_, not}
@@ -15,7 +15,7 @@ use Rattle.model.specs.Layout.{usedAt}
 use Rattle.model.specs.Schemas.{isReference, schemaOf}
 use Rattle.model.specs.Records.{Rec, has, inOrder}
 use Rattle.model.specs.Tables.{recordOf, decode}
-use Rattle.model.specs.Shown.{targets, standing, kept, settled, shown}
+use Rattle.model.specs.Shown.{targets, standing, kept, shown}
 use Rattle.laws.proofs.Lists.{_∈_}
 use Rattle.laws.proofs.Shown.{standing-in, kept-in, settled-part, settled-largest, shown-references}
 use Rattle.marking.specs.Marks.{isMarked}

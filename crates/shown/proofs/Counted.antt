@@ -2,8 +2,7 @@
 -- Assumes nothing.
 use Prim.Native.Nat.{ℕ, zero, suc, _+_, _-_, _≤_, _<_}
 use mathlib.Core.Path.{_≡_, refl, sym, _∙_, ap}
-use mathlib.Core.Logic.{_⊎_, inl, inr}
-use mathlib.Core.Bool.{Bool, true, false, cond, _&&_, not}
+use mathlib.Core.Bool.{Bool, true, false, cond, _&&_}
 use mathlib.Core.List.{List, [], _∷_, _++_, map}
 use native.Mathlib.Omega.{arith}
 use native.Mathlib.Numerals.{add-one}
@@ -12,24 +11,24 @@ use lib.ListN.{length, getD, take, drop, set, replicate, length-map, length-take
 use lib.Seq.{ext-getD, getD-take, getD-append-add, getD-set-same, getD-set-other, drop-cons}
 use Rattle.answers.specs.Told.{Told, told}
 use Rattle.model.specs.Layout.{capacityOf, usedAt}
-use Rattle.model.specs.Lists.{only, listed, lowest}
+use Rattle.model.specs.Lists.{only, lowest}
 use Rattle.model.specs.Schemas.{broken, schemaOf}
 use Rattle.model.specs.Records.{Rec, has, inOrder}
 use Rattle.model.specs.Tables.{recordOf, decode}
 use Rattle.model.specs.WellFormed.{wellFormed}
 use Rattle.model.specs.Shown.{shown}
 use Rattle.model.specs.Calls.{schemaLength, tableLength, marksLength, marksOf, marksNumber, marksCount, marksMarks}
-use Rattle.crdt.proofs.Tests.{Tri, low, same, high, tri, clash, and-left, and-right}
-use borrow.Author.Tests.{eqb-true, not-false}
+use Rattle.crdt.proofs.Tests.{Tri, low, same, high, tri, and-left, and-right}
+use borrow.Author.Tests.{eqb-true}
 use Rattle.laws.proofs.Lists.{_∈_, only-in, in-only}
 use Rattle.laws.proofs.Order.{order-rising, order-length}
 use Rattle.laws.proofs.Members.{read-in-order}
 use Rattle.laws.proofs.Merge.{only-distinct}
 use Rattle.encoded.proofs.Follow.{noRec}
 use Rattle.encoded.proofs.Ranges.{listed-length, listed-at}
-use Rattle.decoded.proofs.Facts.{formed, table-sized}
+use Rattle.decoded.proofs.Facts.{formed}
 use Rattle.listing.proofs.Rising.{Few, shown-few}
-use Rattle.marking.proofs.Members.{records-once, in-order, order-in, in-record, held, holds}
+use Rattle.marking.proofs.Members.{records-once, in-order, order-in, in-record, held}
 use Rattle.laws.proofs.Shown.{in-has}
 use Rattle.kept.proofs.Listed.{mark}
 use Rattle.resolved.specs.Resolved.{Marked}

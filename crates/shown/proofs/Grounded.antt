@@ -1,23 +1,22 @@
 -- A record whose resolved references lead to marked records: its targets are keys of marked records.
 -- Assumes nothing.
-use Prim.Native.Nat.{ℕ, suc, _+_, _*_, _-_, _≤_, _<_}
-use mathlib.Core.Path.{_≡_, refl, sym, _∙_, ap}
+use Prim.Native.Nat.{ℕ, _+_, _*_, _-_, _≤_}
+use mathlib.Core.Path.{_≡_, sym, _∙_, ap}
 use mathlib.Core.Logic.{_⊎_, inl, inr}
-use mathlib.Core.Bool.{Bool, true, false, cond, _&&_, _||_, not}
+use mathlib.Core.Bool.{Bool, true, false, _&&_, not}
 use mathlib.Core.List.{List}
 use native.Mathlib.Omega.{arith}
 use lib.Dec.{eqb}
 use lib.ListN.{length, getD}
 use borrow.Author.Tests.{eqb-true, eqb-false, eq-eqb, ne-eqb}
-use Rattle.crdt.proofs.Tests.{test, clash, and-left, and-right, and-both, or-cases, or-left, or-right, not-true, not-false}
-use Rattle.model.specs.Layout.{fields, mostRecords, kindAt, capacityOf, usedAt, relationAt, valueAt, stampAt}
-use Rattle.model.specs.Lists.{each, listed}
-use Rattle.model.specs.Schemas.{isReference, leadsTo, schemaOf}
-use Rattle.model.specs.Records.{Rec, place, has, distinct, position}
+use Rattle.crdt.proofs.Tests.{test, and-left, and-right, and-both, or-cases, or-right, not-true, not-false}
+use Rattle.model.specs.Layout.{fields, mostRecords, kindAt, usedAt, relationAt, valueAt, stampAt}
+use Rattle.model.specs.Schemas.{isReference, schemaOf}
+use Rattle.model.specs.Records.{Rec, has, distinct, position}
 use Rattle.model.specs.Tables.{recordOf, decode}
 use Rattle.model.specs.Shown.{targets}
 use Rattle.laws.proofs.Lists.{_∈_}
-use Rattle.encoded.proofs.Follow.{noRec, position-none, position-some, position-at, has-record}
+use Rattle.encoded.proofs.Follow.{noRec, position-none, position-some, position-at}
 use Rattle.encoded.proofs.Ranges.{each-at, each-all, listed-length, listed-at}
 use Rattle.decoded.proofs.Facts.{schema-sound, formed, table-sized}
 use Rattle.decoded.proofs.Values.{records-distinct}

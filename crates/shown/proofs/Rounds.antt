@@ -8,10 +8,9 @@ use mathlib.Core.Bool.{Bool, true, false, cond, _&&_, _||_, not}
 use mathlib.Core.List.{List, [], _∷_}
 use native.Mathlib.Omega.{arith}
 use native.Mathlib.Numerals.{add-one}
-use lib.Dec.{eqb}
-use lib.ListN.{length, getD, set, length-set}
-use borrow.Author.Tests.{eqb-true, eq-eqb}
-use Rattle.crdt.proofs.Tests.{Tri, low, same, high, tri, test, clash, and-left, and-right, or-cases, or-left, or-right}
+use lib.ListN.{getD, set}
+use borrow.Author.Tests.{eq-eqb}
+use Rattle.crdt.proofs.Tests.{Tri, low, same, high, tri, test, clash, and-left}
 use Rattle.model.specs.Layout.{fields, usedAt}
 use Rattle.model.specs.Lists.{each}
 use Rattle.layout.proofs.Each.{each-more}

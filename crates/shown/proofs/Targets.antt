@@ -1,19 +1,18 @@
 -- The targets of a record of a table, by its fields.
 -- Assumes nothing.
 use Prim.Native.Nat.{ℕ, zero, suc, _+_, _≤_, _<_}
-use mathlib.Core.Path.{_≡_, refl, sym, _∙_, ap}
+use mathlib.Core.Path.{_≡_, sym, _∙_, ap}
 use mathlib.Core.Logic.{_⊎_, inl, inr}
 use mathlib.Core.Bool.{Bool, true, false, cond, _&&_, not}
-use mathlib.Core.List.{List, [], _∷_, List·Memᴰ·head, List·Memᴰ·tail}
+use mathlib.Core.List.{List, _∷_, List·Memᴰ·head, List·Memᴰ·tail}
 use native.Mathlib.Omega.{arith}
 use lib.Dec.{eqb}
-use borrow.Author.Tests.{eqb-true}
 use Rattle.crdt.specs.Cells.{Reg, reg}
 use Rattle.crdt.proofs.Tests.{Tri, low, same, high, tri, test, clash, and-left, and-right, not-true}
 use Rattle.model.specs.Layout.{fields, relations, fieldCount, kindAt, usedAt, relationAt, valueAt, stampAt}
 use Rattle.model.specs.Lists.{from, listed}
-use Rattle.model.specs.Schemas.{isReference, leadsTo, broken, schemaOf}
-use Rattle.model.specs.Records.{Rec, place, relation}
+use Rattle.model.specs.Schemas.{leadsTo, broken, schemaOf}
+use Rattle.model.specs.Records.{place, relation}
 use Rattle.model.specs.Tables.{recordOf}
 use Rattle.model.specs.WellFormed.{wellFormed}
 use Rattle.model.specs.Shown.{described, leads, targets}

@@ -1,18 +1,17 @@
 // Steps 3 and 4 of the shown list over resolved references, and the shown marks of a table.
 ghost use mathlib.Core.Path.{_≡_};
-ghost use mathlib.Core.Bool.{true, false, cond, _||_, _&&_, not};
+ghost use mathlib.Core.Bool.{true, false, cond};
 ghost use mathlib.Core.List.{_++_};
 ghost use Prim.Native.Nat.{_+_, _*_, _-_, _≤_};
 ghost use lib.Dec.{eqb};
 ghost use lib.ListN.{length, take, replicate};
 ghost use Rattle.answers.specs.Told.{told, marksTold};
 ghost use Rattle.model.specs.Layout.{fields, usedAt};
-ghost use Rattle.model.specs.Schemas.{broken, schemaOf};
+ghost use Rattle.model.specs.Schemas.{schemaOf};
 ghost use Rattle.model.specs.Records.{inOrder};
 ghost use Rattle.model.specs.Tables.{decode};
-ghost use Rattle.model.specs.WellFormed.{wellFormed};
 ghost use Rattle.model.specs.Shown.{standing, kept, shown};
-ghost use Rattle.model.specs.Calls.{schemaLength, tableLength, marksLength, marksNumber, marksCount, marksMarks};
+ghost use Rattle.model.specs.Calls.{marksNumber, marksCount, marksMarks};
 ghost use Rattle.resolved.specs.Resolved.{Resolves, Marked};
 ghost use Rattle.resolved.specs.Order.{Checked};
 ghost use Rattle.shown.specs.Rounds.{leadsOn, groundedAt, dropsAt, droppedAt, roundOf, dropsAny, ones};

@@ -9,7 +9,7 @@ use native.Mathlib.Omega.{arith}
 use lib.Dec.{eqb, ltb}
 use lib.ListN.{length, getD}
 use borrow.Author.Tests.{eqb-true, eqb-false, eq-eqb, ne-eqb, ltb-true, ltb-false}
-use Rattle.crdt.proofs.Tests.{Tri, low, same, high, tri, test, clash, not-true, not-false}
+use Rattle.crdt.proofs.Tests.{Tri, low, same, high, tri, test, clash, not-true}
 use Rattle.model.specs.Layout.{mostRelations, usedAt, firstAt, nextAt, relationAt, labelAt}
 use Rattle.model.specs.Lists.{listed}
 use Rattle.model.specs.Schemas.{broken}

@@ -1,10 +1,7 @@
 -- `kept::conflicts_on` meets its contract.
 -- Assumes nothing.
 use native.Mathlib.Omega.{arith}
-use native.Mathlib.Nat.{add-sub-cancel-left}
-use mathlib.Core.Path.{_≡_, refl, sym, _∙_, ap}
 use Rattle.model.specs.Layout.{base}
-use Rattle.kept.specs.Keys.{valuesConflict, valuesAt}
 use Rattle.kept.proofs.Keys.{values-in, few-fields, few-of, part-length, part-lent}
 use borrow.Author.Needs.{needs}
 use Rattle.kept.proofs.conflicts_on.Statement.{statement}

@@ -1,8 +1,6 @@
 -- `kept::is_beaten` meets its contract.
 -- Assumes nothing.
-use native.Mathlib.Omega.{arith}
-use mathlib.Core.Path.{_≡_, refl, sym, _∙_, ap}
-use Rattle.model.specs.Layout.{relationAt}
+use mathlib.Core.Path.{sym, _∙_}
 use Rattle.marking.proofs.Chain.{left, next-less}
 use Rattle.kept.proofs.Beaten.{goes-on, stops-at, Upto, upto-first, upto-on, upto-next, upto-beaten, upto-unbeaten}
 use borrow.Author.Needs.{needs}

@@ -1,10 +1,8 @@
 -- `kept::records_conflict` meets its contract.
 -- Assumes nothing.
 use native.Mathlib.Omega.{arith}
-use native.Mathlib.Nat.{add-sub-cancel-left}
-use mathlib.Core.Path.{_≡_, refl, sym, _∙_, ap}
+use mathlib.Core.Path.{_∙_}
 use Rattle.model.specs.Layout.{base}
-use Rattle.kept.specs.Keys.{valuesConflict, valuesAt}
 use Rattle.kept.proofs.Keys.{values-in, few-fields, few-of, part-length, parts-lent, records-on}
 use borrow.Author.Needs.{needs}
 use Rattle.kept.proofs.records_conflict.Statement.{statement}

@@ -1,7 +1,7 @@
 -- `shown::clear_above` meets its contract.
 -- Assumes nothing.
 use Prim.Native.Nat.{_≤_, _-_}
-use mathlib.Core.Path.{_≡_, refl, sym, _∙_}
+use mathlib.Core.Path.{_≡_, refl}
 use native.Mathlib.Omega.{arith}
 use lib.ListN.{length, length-set}
 use Rattle.shown.proofs.Counted.{Cleared, cleared-none, cleared-more, cleared-all}

@@ -2,7 +2,7 @@
 -- Assumes nothing.
 use lib.ListN.{getD}
 use Prim.Native.Nat.{_≤_, _-_, _+_}
-use mathlib.Core.Path.{_≡_, refl, sym, _∙_}
+use mathlib.Core.Path.{_≡_}
 use native.Mathlib.Omega.{arith}
 use lib.ListN.{length, drop}
 use Rattle.shown.specs.Rounds.{ones}

@@ -1,6 +1,6 @@
 -- `shown::drop_record` meets its contract.
 -- Assumes nothing.
-use mathlib.Core.Path.{_≡_, sym, _∙_}
+use mathlib.Core.Path.{sym, _∙_}
 use Rattle.shown.proofs.Rounds.{drop-yes, drop-no}
 use borrow.Author.Needs.{needs}
 use Rattle.shown.proofs.drop_record.Statement.{statement}

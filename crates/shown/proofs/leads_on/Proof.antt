@@ -1,6 +1,5 @@
 -- `shown::leads_on` meets its contract.
 -- Assumes nothing.
-use Prim.Native.Nat.{ℕ}
 use mathlib.Core.Path.{ap}
 use mathlib.Core.Bool.{Bool, _||_, _&&_, not}
 use lib.Dec.{eqb}

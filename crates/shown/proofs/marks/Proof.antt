@@ -1,7 +1,7 @@
 -- `shown::marks` meets its contract.
 -- Assumes nothing.
 use Rattle.resolved.specs.Order.{Checked}
-use mathlib.Core.Path.{_≡_, refl, sym, _∙_}
+use mathlib.Core.Path.{sym, _∙_}
 use native.Mathlib.Omega.{arith}
 use borrow.Author.Tests.{not-true, not-false}
 use Rattle.shown.proofs.Counted.{right-of, rights, room, told-length, told-schema, told-table, told-marked, marks-are, marks-counted}

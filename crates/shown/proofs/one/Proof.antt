@@ -1,6 +1,5 @@
 -- `shown::one` meets its contract.
 -- Assumes nothing.
-use mathlib.Core.Path.{refl}
 use borrow.Author.Tests.{eq-eqb, ne-eqb}
 use Rattle.shown.proofs.one.Statement.{statement}
 use Rattle.shown.proofs.one.Tie as tie

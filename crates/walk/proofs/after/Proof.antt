@@ -1,6 +1,6 @@
 -- `walk::after` meets its contract.
 -- Assumes nothing.
-use mathlib.Core.Path.{_≡_, refl, sym, _∙_, ap}
+use mathlib.Core.Path.{sym, _∙_}
 use Rattle.model.specs.Tables.{decode}
 use Rattle.model.specs.Calls.{placeKey}
 use Rattle.walk.proofs.Cursor.{Cursor, ahead, turn, turn-less, goes-past, goes-far, start-past, start-far, gives}

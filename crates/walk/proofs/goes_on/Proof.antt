@@ -1,6 +1,6 @@
 -- `walk::goes_on` meets its contract.
 -- Assumes nothing.
-use mathlib.Core.Path.{_≡_, refl, ap}
+use mathlib.Core.Path.{refl, ap}
 use mathlib.Core.Bool.{not}
 use Rattle.walk.proofs.Cursor.{zero-pick, more-pick}
 use borrow.Author.Needs.{needs}

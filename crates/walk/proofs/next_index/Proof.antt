@@ -1,7 +1,5 @@
 -- `walk::next_index` meets its contract.
 -- Assumes nothing.
-use mathlib.Core.Path.{_≡_, refl, ap}
-use mathlib.Core.Bool.{not}
 use Rattle.walk.proofs.Cursor.{zero-pick, more-pick}
 use borrow.Author.Needs.{needs}
 use Rattle.walk.proofs.next_index.Statement.{statement}

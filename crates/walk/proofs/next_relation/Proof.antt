@@ -1,7 +1,6 @@
 -- `walk::next_relation` meets its contract.
 -- Assumes nothing.
-use mathlib.Core.Path.{_≡_, refl, ap}
-use mathlib.Core.Bool.{not}
+use mathlib.Core.Path.{refl}
 use Rattle.walk.proofs.Cursor.{zero-pick, more-pick}
 use borrow.Author.Needs.{needs}
 use Rattle.walk.proofs.next_relation.Statement.{statement}

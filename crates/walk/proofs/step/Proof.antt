@@ -1,6 +1,6 @@
 -- `walk::step` meets its contract.
 -- Assumes nothing.
-use mathlib.Core.Path.{_≡_, sym, _∙_}
+use mathlib.Core.Path.{sym, _∙_}
 use borrow.Author.Tests.{not-true, not-false}
 use Rattle.walk.proofs.Steps.{right, told-length, told-schema, told-table, told-given, is-sound}
 use borrow.Author.Needs.{needs}
