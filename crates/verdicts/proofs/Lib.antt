@@ -1,3 +1,4 @@
 pub mod Clash
 pub mod Deletion
 pub mod Update
+pub mod Insertion
