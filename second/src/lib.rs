@@ -9,6 +9,7 @@
 
 pub mod cases;
 pub mod edit;
+pub mod inputs;
 pub mod label;
 pub mod list;
 pub mod merge;

@@ -1,4 +1,5 @@
-//! `second cases`, `second list`, `second vectors SEED`, `second expect`.
+//! `second cases`, `second list`, `second barn`, `second runs DIR`, `second lists SEED DIR`,
+//! `second vectors SEED`, `second expect`.
 //!
 //! A test's second implementation; in no shipped artifact.
 
@@ -10,6 +11,15 @@ fn input() -> io::Result<Vec<u8>> {
     Ok(bytes)
 }
 
+/// Each input as NAME.in, and what the list program must print as NAME.out.
+fn write_inputs(to: &str, inputs: &[(String, Vec<u8>)]) -> io::Result<()> {
+    for (name, bytes) in inputs {
+        std::fs::write(format!("{}/{}.in", to, name), bytes)?;
+        std::fs::write(format!("{}/{}.out", to, name), second::list::list(bytes))?;
+    }
+    Ok(())
+}
+
 fn main() -> io::Result<()> {
     let words: Vec<String> = std::env::args().skip(1).collect();
     let words: Vec<&str> = words.iter().map(String::as_str).collect();
@@ -17,6 +27,9 @@ fn main() -> io::Result<()> {
     match words.as_slice() {
         ["cases"] => out.write_all(second::cases::text().as_bytes()),
         ["list"] => out.write_all(second::list::list(&input()?).as_bytes()),
+        ["barn"] => out.write_all(&second::inputs::barn()),
+        ["runs", to] => write_inputs(to, &second::inputs::runs()),
+        ["lists", seed, to] => write_inputs(to, &second::inputs::lists(seed.parse().unwrap_or(1))),
         ["vectors", seed] => {
             let seed = seed.parse().unwrap_or(1);
             let items = second::vectors::vectors(seed);
@@ -24,7 +37,9 @@ fn main() -> io::Result<()> {
         }
         ["expect"] => out.write_all(second::vectors::expect(&input()?).as_bytes()),
         _ => {
-            eprintln!("second cases | list | vectors SEED | expect");
+            eprintln!(
+                "second cases | list | barn | runs DIR | lists SEED DIR | vectors SEED | expect"
+            );
             std::process::exit(2);
         }
     }

@@ -1,6 +1,7 @@
 //! The cases, the edges and the refusals of document 01, and random runs.
 
 use crate::cases::{bytes_of, herd, record, schema_words, table as case_table, COW, DELETED};
+use crate::inputs::{barn, lists, runs, CATEGORIES};
 use crate::label::{
     delete, is_label, join_flags, join_registers, label_of, redo, Register, LARGEST_COUNTER,
 };
@@ -253,6 +254,48 @@ fn list_refusals() {
     let mut full = vec![0; 16 + 20 * 300];
     start(&mut full, 1).unwrap();
     assert_eq!(listed(&herd(), &full), "shown 0\n");
+}
+
+#[test]
+fn list_barn() {
+    let text = "shown 7\n1 1.1 1\n1 2.1 2\n2 3.1 4711 1.1\n2 4.1 4712 -\n2 4.2 4713 2.1\n\
+                3 5.1 3.1 12400\n3 7.2 4.2 11250\n";
+    assert_eq!(list(&barn()), text);
+}
+
+#[test]
+fn list_runs() {
+    let answers: Vec<(String, String)> =
+        runs().into_iter().map(|(name, bytes)| (name, list(&bytes))).collect();
+    for (name, text) in &answers {
+        let first = text.lines().next().unwrap_or("");
+        let wanted = match name.as_str() {
+            "c5" => "shown 2",
+            "empty-reference" => "shown 1",
+            "n-0" => "shown 0",
+            "n-300" => "shown 300",
+            "schema-broken" => "refused 2",
+            "table-damaged" => "refused 3",
+            _ => "refused 1",
+        };
+        assert_eq!(first, wanted, "{}", name);
+    }
+    assert!(answers.iter().filter(|(_, text)| text == "refused 1\n").count() >= 6);
+}
+
+#[test]
+fn list_inputs() {
+    let inputs = lists(1);
+    assert!(inputs.len() >= 200);
+    for category in CATEGORIES {
+        let of = |name: &str| name.rsplit_once('-').map_or("", |parts| parts.0) == category;
+        assert!(inputs.iter().filter(|(name, _)| of(name)).count() >= 20, "{}", category);
+    }
+    let texts: Vec<String> = inputs.iter().map(|(_, bytes)| list(bytes)).collect();
+    for begin in ["shown ", "refused 1\n", "refused 2\n", "refused 3\n"] {
+        assert!(texts.iter().filter(|text| text.starts_with(begin)).count() >= 20, "{}", begin);
+    }
+    assert!(texts.iter().filter(|text| text.contains(" -")).count() >= 20);
 }
 
 // The numbers go in order.

@@ -102,7 +102,7 @@ pub fn random_edit(random: &mut Random, schema: &[u64], own: &[u64]) -> Edit {
 }
 
 /// A table made by calls: a start, edits, and merges with tables made the same way.
-fn called_table(random: &mut Random, schema: &[u64], capacity: usize, depth: u64) -> Vec<u64> {
+pub fn called_table(random: &mut Random, schema: &[u64], capacity: usize, depth: u64) -> Vec<u64> {
     let mut own = vec![0; HEADER + RECORD * capacity];
     let _ = start(&mut own, 1 + random.below(4));
     let mut delta = vec![0; DELTA_WORDS];

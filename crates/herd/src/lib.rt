@@ -1,0 +1,135 @@
+// The calls of document 01 as C functions. A slice is a pointer and a length; the answer is the page's number. No rule stands here.
+ghost use mathlib.Core.Path.{_≡_};
+ghost use Rattle.model.specs.Calls.{schemaNumber, tableNumber, startNumber, startTable, valuesNumber, mergeNumber, mergeTable, marksNumber, marksCount, marksMarks, walkNumber, walkGiven, walkPlace, insertionNumber, insertionLabel, insertionTable, insertionDelta, updateNumber, updateTable, updateDelta, deletionNumber, deletionTable, deletionDelta};
+ghost use Rattle.herd.specs.First.{valuesFirst};
+
+#[no_mangle]
+pub extern "C" fn herd_schema_check(schema: &[u64]) -> u64
+    ensures { λ r. ⌜ r ≡ schemaNumber (now (schema .entry)) ⌝ }
+{
+    schema::schema_check(schema).number()
+}
+
+#[no_mangle]
+pub extern "C" fn herd_table_check(schema: &[u64], table: &[u64]) -> u64
+    ensures { λ r. ⌜ r ≡ tableNumber (now (schema .entry)) (now (table .entry)) ⌝ }
+{
+    table::table_check(schema, table).number()
+}
+
+#[no_mangle]
+pub extern "C" fn herd_start(table: &mut [u64], replica: u64) -> u64
+    ensures answer { λ r. ⌜ r ≡ startNumber (now (table .entry)) replica ⌝ }
+    ensures words { λ _. ⌜ now (table .exit) ≡ startTable (now (table .entry)) replica ⌝ }
+{
+    table::start(table, replica).number()
+}
+
+#[no_mangle]
+pub extern "C" fn herd_merge(schema: &[u64], own: &mut [u64], other: &[u64]) -> u64
+    ensures answer { λ r. ⌜ r ≡ mergeNumber (now (schema .entry)) (now (own .entry)) (now (other .entry)) ⌝ }
+    ensures words { λ _. ⌜ now (own .exit) ≡ mergeTable (now (schema .entry)) (now (own .entry)) (now (other .entry)) ⌝ }
+{
+    merge::merge(schema, own, other).number()
+}
+
+// `label` becomes the label of the new record, 0 in a refusal.
+#[no_mangle]
+pub extern "C" fn herd_insert(
+    schema: &[u64],
+    own: &mut [u64],
+    delta: &mut [u64],
+    relation: usize,
+    values: &[u64],
+    label: &mut u64,
+) -> u64
+    ensures answer { λ r. ⌜ r ≡ insertionNumber (now (schema .entry)) (now (own .entry)) (now (delta .entry)) relation (now (values .entry)) ⌝ }
+    ensures name { λ _. ⌜ now (label .exit) ≡ insertionLabel (now (schema .entry)) (now (own .entry)) (now (delta .entry)) relation (now (values .entry)) ⌝ }
+    ensures words { λ _. ⌜ now (own .exit) ≡ insertionTable (now (schema .entry)) (now (own .entry)) (now (delta .entry)) relation (now (values .entry)) ⌝ }
+    ensures delta_words { λ _. ⌜ now (delta .exit) ≡ insertionDelta (now (schema .entry)) (now (own .entry)) (now (delta .entry)) relation (now (values .entry)) ⌝ }
+{
+    let answer = edits::insertion(schema, own, delta, relation, values);
+    *label = answer.label();
+    answer.number()
+}
+
+#[no_mangle]
+pub extern "C" fn herd_update(
+    schema: &[u64],
+    own: &mut [u64],
+    delta: &mut [u64],
+    index: usize,
+    field: usize,
+    value: u64,
+) -> u64
+    ensures answer { λ r. ⌜ r ≡ updateNumber (now (schema .entry)) (now (own .entry)) (now (delta .entry)) index field value ⌝ }
+    ensures words { λ _. ⌜ now (own .exit) ≡ updateTable (now (schema .entry)) (now (own .entry)) (now (delta .entry)) index field value ⌝ }
+    ensures delta_words { λ _. ⌜ now (delta .exit) ≡ updateDelta (now (schema .entry)) (now (own .entry)) (now (delta .entry)) index field value ⌝ }
+{
+    edits::update(schema, own, delta, index, field, value).number()
+}
+
+#[no_mangle]
+pub extern "C" fn herd_delete(
+    schema: &[u64],
+    own: &mut [u64],
+    delta: &mut [u64],
+    index: usize,
+) -> u64
+    ensures answer { λ r. ⌜ r ≡ deletionNumber (now (schema .entry)) (now (own .entry)) (now (delta .entry)) index ⌝ }
+    ensures words { λ _. ⌜ now (own .exit) ≡ deletionTable (now (schema .entry)) (now (own .entry)) (now (delta .entry)) index ⌝ }
+    ensures delta_words { λ _. ⌜ now (delta .exit) ≡ deletionDelta (now (schema .entry)) (now (own .entry)) (now (delta .entry)) index ⌝ }
+{
+    edits::deletion(schema, own, delta, index).number()
+}
+
+// `shown` becomes the number of shown records, 0 in a refusal.
+#[no_mangle]
+pub extern "C" fn herd_marks(
+    schema: &[u64],
+    table: &[u64],
+    marks: &mut [u8],
+    shown: &mut u64,
+) -> u64
+    ensures answer { λ r. ⌜ r ≡ marksNumber (now (schema .entry)) (now (table .entry)) (now (marks .entry)) ⌝ }
+    ensures count { λ _. ⌜ now (shown .exit) ≡ marksCount (now (schema .entry)) (now (table .entry)) (now (marks .entry)) ⌝ }
+    ensures bytes { λ _. ⌜ now (marks .exit) ≡ marksMarks (now (schema .entry)) (now (table .entry)) (now (marks .entry)) ⌝ }
+{
+    let answer = shown::marks(schema, table, marks);
+    *shown = answer.count() as u64;
+    answer.number()
+}
+
+// `given` becomes the index of the record given, 0 at the end and in a refusal; `place` moves to it, and otherwise stays.
+#[no_mangle]
+pub extern "C" fn herd_walk(
+    schema: &[u64],
+    table: &[u64],
+    marks: &[u8],
+    place: &mut u64,
+    given: &mut u64,
+) -> u64
+    ensures answer { λ r. ⌜ r ≡ walkNumber (now (schema .entry)) (now (table .entry)) (now (marks .entry)) (now (place .entry)) ⌝ }
+    ensures index { λ _. ⌜ now (given .exit) ≡ walkGiven (now (schema .entry)) (now (table .entry)) (now (marks .entry)) (now (place .entry)) ⌝ }
+    ensures moved { λ _. ⌜ now (place .exit) ≡ walkPlace (now (schema .entry)) (now (table .entry)) (now (marks .entry)) (now (place .entry)) ⌝ }
+{
+    let m = walk::advance(schema, table, marks, *place as usize);
+    let answer = m.answer;
+    *place = m.index as u64;
+    *given = answer.index() as u64;
+    answer.number()
+}
+
+// `first` becomes the word of the table at which the record's values begin, 0 in a refusal.
+#[no_mangle]
+pub extern "C" fn herd_values(table: &[u64], index: usize, first: &mut u64) -> u64
+    ensures answer { λ r. ⌜ r ≡ valuesNumber (now (table .entry)) index ⌝ }
+    ensures word { λ _. ⌜ now (first .exit) ≡ valuesFirst (now (table .entry)) index ⌝ }
+{
+    if table::values(table, index).len() == 0 {
+        *first = 0;
+        return 1;
+    }
+    *first = (layout::base(index) + layout::HEAD_WORDS) as u64;
+    0
+}

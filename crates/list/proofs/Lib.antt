@@ -1,0 +1,4 @@
+pub mod Answers
+pub mod Whole
+pub mod Room
+pub mod Example
