@@ -1,69 +1,82 @@
--- Halving in list order: the place of a key, and the position of its record.
+-- Halving without a branch.
 -- Assumes nothing.
-use Prim.Native.Nat.{ℕ, _+_, _≤_, _<_}
-use mathlib.Core.Path.{_≡_, sym, _∙_, ap}
+use Prim.Native.Nat.{ℕ, _+_, _*_, _-_, _/_, _≤_, _<_}
+use mathlib.Core.Path.{_≡_}
 use mathlib.Core.List.{List}
 use native.Mathlib.Omega.{arith}
 use lib.ListN.{getD}
 use Rattle.crdt.proofs.Tests.{Tri, low, same, high, tri}
-use Rattle.model.specs.Layout.{mostRelations, usedAt}
-use Rattle.model.specs.Records.{place, position}
-use Rattle.model.specs.Tables.{decode}
-use Rattle.resolved.specs.Order.{Checked, keyAt, Ordered, Lower}
-use Rattle.resolved.proofs.Places.{position-is, position-nowhere}
-use Rattle.resolved.proofs.Order.{order-all}
+use Rattle.resolved.specs.Search.{Sorted, Lower}
 
--- the place of x lies between
-pub record Between (t o : List ℕ) (n x lo hi : ℕ) : Type 0 where
-  pub ordered : lo ≤ hi
-  pub within : hi ≤ n
-  pub below : (j : ℕ) → j < lo → keyAt t (getD o j 0) < x
-  pub above : (j : ℕ) → hi ≤ j → j < n → x ≤ keyAt t (getD o j 0)
+-- the place of x lies in the `rest` entries before `high`, or at `high`
+pub record Between (a : List ℕ) (from to x hi rest : ℕ) : Type 0 where
+  pub part : from + rest ≤ hi
+  pub most : hi ≤ to
+  pub below : (j : ℕ) → from ≤ j → j + rest < hi → getD a j 0 < x
+  pub above : (j : ℕ) → hi ≤ j → j < to → x ≤ getD a j 0
 
-pub between-start : (t o : List ℕ) (n x : ℕ) → Between t o n x 0 n
-between-start t o n x = record { ordered = omega arith; within = omega arith; below = λ j l. absurd (omega arith); above = λ j l m. absurd (omega arith) }
+pub between-start : (a : List ℕ) (from to x : ℕ) → from ≤ to → Between a from to x to (to - from)
+between-start a from to x p =
+    record { part = omega arith; most = omega arith; below = λ j l m. absurd (omega arith); above = λ j l m. absurd (omega arith) }
 
-pub between-end : (t o : List ℕ) (n x lo hi : ℕ) → Between t o n x lo hi → hi ≤ lo → Lower t o n x lo
-between-end t o n x lo hi b l = record { within = omega (arith, b .ordered, b .within); below = b .below; above = λ j p q. b .above j (omega arith) q }
+pub between-end : (a : List ℕ) (from to x hi rest : ℕ) → Between a from to x hi rest → rest ≤ 0 → Lower a from to x hi
+between-end a from to x hi rest b z =
+    record { least = omega (arith, b .part); most = b .most; below = λ j l m. b .below j l (omega arith); above = b .above }
 
-module _ (t o : List ℕ) (n k x lo hi mid y : ℕ) (h : Ordered t k o n) (b : Between t o n x lo hi) (a : lo ≤ mid) (l : mid < hi) (e : y ≡ keyAt t (getD o mid 0)) where
-  pub between-up : y < x → Between t o n x (mid + 1) hi
-  between-up q = record { ordered = omega arith; within = b .within; below = λ j m. go j m (tri j mid); above = b .above }
+-- a number that is 1 or 0, multiplied
+abbrev pub Least : ℕ → ℕ → ℕ → Type 0
+Least y x r = (x ≤ y → r ≡ 1) × (y < x → r ≡ 0)
+
+data Cut (y x h m : ℕ) : Type 0 where
+  lower : x ≤ y → m ≡ h → Cut y x h m
+  upper : y < x → m ≡ 0 → Cut y x h m
+
+module _ (y x r h : ℕ) (e : Least y x r) where
+  cut : Cut y x h (h * r)
+  cut = go (tri y x)
     where
-      go : (j : ℕ) → j < mid + 1 → Tri j mid → keyAt t (getD o j 0) < x
-      go j m (low p) = omega (arith, h .rising j mid p (omega (arith, b .within)))
-      go j m (same p) = rw p (omega arith)
-      go j m (high p) = absurd (omega arith)
+      go : Tri y x → Cut y x h (h * r)
+      go (low l) = upper l (rw (e .1 l) (omega arith))
+      go (same l) = lower (omega arith) (rw (e .0 (omega arith)) (omega arith))
+      go (high l) = lower (omega arith) (rw (e .0 (omega arith)) (omega arith))
 
-  pub between-down : x ≤ y → Between t o n x lo mid
-  between-down q = record { ordered = a; within = omega (arith, b .within); below = b .below; above = λ j m p. go j m p (tri mid j) }
+  pub cut-most : h * r ≤ h
+  cut-most = go cut
     where
-      go : (j : ℕ) → mid ≤ j → j < n → Tri mid j → x ≤ keyAt t (getD o j 0)
-      go j m p (low r) = omega (arith, h .rising mid j r p)
-      go j m p (same r) = rw (← r) (omega arith)
-      go j m p (high r) = absurd (omega arith)
+      go : Cut y x h (h * r) → h * r ≤ h
+      go (lower p q) = omega arith
+      go (upper p q) = omega arith
 
-module _ (s t o : List ℕ) (n x at : ℕ) (c : Checked s t) (h : Ordered t (place (mostRelations + 1) 0) o n) (w : Lower t o n x at) where
-  -- no record behind all smaller keys
-  pub found-past : n ≤ at → 0 ≡ position x (decode t .records)
-  found-past l = sym (position-nowhere s t c x (λ i a b e. let r = order-all s t c o n h i a b in omega (arith, w .below (r .0) (omega (arith, r .1)), ap (λ (p : ℕ). keyAt t p) (r .2))))
+module _ (a : List ℕ) (from to x hi rest y r : ℕ) (s : Sorted a from to) (b : Between a from to x hi rest) (some : 0 < rest)
+    (at : y ≡ getD a (hi - (rest - rest / 2)) 0) (e : Least y x r) where
+  abbrev mid : ℕ
+  mid = hi - (rest - rest / 2)
 
-  pub found-here : (i : ℕ) → at < n → i ≡ getD o at 0 → keyAt t i ≡ x → i ≡ position x (decode t .records)
-  found-here i l e q =
-      let a : 1 ≤ i = omega (arith, h .least at l) in
-      let b : i ≤ usedAt t = omega (arith, h .within at l) in
-      rw (← q) (sym (position-is s t c i a b))
-
-  pub found-none : at < n → (keyAt t (getD o at 0) ≡ x → ⊥) → 0 ≡ position x (decode t .records)
-  found-none l ne = sym (position-nowhere s t c x (λ i a b e. go i e (order-all s t c o n h i a b)))
+  step : (m : ℕ) → Cut y x (rest - rest / 2) m → Between a from to x (hi - m) (rest / 2)
+  step m (lower p q) =
+      record {
+        part = omega (arith, b .part);
+        most = omega (arith, b .most);
+        below = λ j l n. b .below j l (omega (arith, b .part));
+        above = λ j l n. go j l n (tri mid j);
+      }
     where
-      go : (i : ℕ) → keyAt t i ≡ x → (j : ℕ) × (j < n) × (getD o j 0 ≡ i) → ⊥
-      go i e r = by (tri (r .0) at)
-        where
-          k : keyAt t (getD o (r .0) 0) ≡ x
-          k = ap (λ (p : ℕ). keyAt t p) (r .2) ∙ e
+      go : (j : ℕ) → hi - m ≤ j → j < to → Tri mid j → x ≤ getD a j 0
+      go j l n (low k) = omega (arith, s .rising mid j (omega (arith, b .part)) k n)
+      go j l n (same k) = rw (← k) (omega arith)
+      go j l n (high k) = absurd (omega arith)
+  step m (upper p q) =
+      record {
+        part = omega (arith, b .part);
+        most = omega (arith, b .most);
+        below = λ j l n. go j l n (tri j mid);
+        above = λ j l n. b .above j (omega arith) n;
+      }
+    where
+      go : (j : ℕ) → from ≤ j → j + rest / 2 < hi - m → Tri j mid → getD a j 0 < x
+      go j l n (low k) = omega (arith, s .rising j mid l k (omega (arith, b .part, b .most)))
+      go j l n (same k) = rw k (omega arith)
+      go j l n (high k) = absurd (omega (arith, b .part))
 
-          by : Tri (r .0) at → ⊥
-          by (low m) = omega (arith, w .below (r .0) m, k)
-          by (same m) = ne (rw m at k)
-          by (high m) = omega (arith, w .above at (omega arith) l, h .rising at (r .0) m (r .1), k)
+  pub between-step : Between a from to x (hi - (rest - rest / 2) * r) (rest / 2)
+  between-step = step ((rest - rest / 2) * r) (cut y x r (rest - rest / 2) e)

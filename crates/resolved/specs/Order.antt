@@ -28,9 +28,3 @@ pub record Ordered (t : List ℕ) (k : ℕ) (o : List ℕ) (n : ℕ) : Type 0 wh
   pub upto : (j : ℕ) → j < n → keyAt t (getD o j 0) ≤ k
   pub rising : (i j : ℕ) → i < j → j < n → keyAt t (getD o i 0) < keyAt t (getD o j 0)
   pub all : (i : ℕ) → 1 ≤ i → i ≤ usedAt t → keyAt t i ≤ k → (j : ℕ) × (j < n) × (getD o j 0 ≡ i)
-
--- The place of a key in the first n entries: those before it have smaller keys, and the others have not.
-pub record Lower (t o : List ℕ) (n x r : ℕ) : Type 0 where
-  pub within : r ≤ n
-  pub below : (j : ℕ) → j < r → keyAt t (getD o j 0) < x
-  pub above : (j : ℕ) → r ≤ j → j < n → x ≤ keyAt t (getD o j 0)

@@ -98,18 +98,18 @@ fn abort_target(schema: &[u64], table: &[u64], refs: &[u16], i: usize, j: usize)
     requires { ⌜ Checked (now schema) (now table) × Resolves (now schema) (now table) (now refs) × (fields * usedAt (now table) ≤ length (now refs)) × (1 ≤ i) × (i ≤ usedAt (now table)) × (1 ≤ j) × (j ≤ fields) ⌝ }
     ensures { λ r. ⌜ Target (now (schema .entry)) (now (table .entry)) i j r ⌝ }
 {
-    let kind = layout::kind_at(schema, layout::relation_at(table, i), j);
-    if kind < layout::ABORT {
-        return 0;
-    }
-    if layout::PROPAGATION <= kind {
-        return 0;
-    }
     let p = refs[layout::FIELDS * (i - 1) + (j - 1)];
     if p == 0 {
         return 0;
     }
     if p == resolved::ABSENT {
+        return 0;
+    }
+    let kind = layout::kind_at(schema, layout::relation_at(table, i), j);
+    if kind < layout::ABORT {
+        return 0;
+    }
+    if layout::PROPAGATION <= kind {
         return 0;
     }
     p as usize
@@ -131,6 +131,9 @@ fn hop(
 {
     let p = abort_target(schema, table, refs, i, j);
     if p == 0 {
+        return n;
+    }
+    if marks[p - 1] == 1 {
         return n;
     }
     if complete(schema, table, p) {

@@ -1,82 +1,53 @@
 -- `resolved::lower` meets its contract.
 -- Assumes nothing.
-use Prim.Native.Nat.{ℕ, _+_, _/_, _≤_, _<_, _-_}
-use mathlib.Core.List.{List}
-use lib.ListN.{getD}
-use Rattle.model.specs.Layout.{usedAt, mostRecords}
-use Rattle.resolved.proofs.Places.{used-most}
+use Prim.Native.Nat.{_/_, _-_}
+use mathlib.Core.Path.{refl}
 use native.Mathlib.Omega.{arith}
-use Rattle.resolved.proofs.Search.{Between, between-start, between-end, between-up, between-down}
+use Rattle.resolved.proofs.Search.{Between, between-end, between-step, cut-most}
 use borrow.Author.Needs.{needs}
 use Rattle.resolved.proofs.lower.Statement.{statement}
 use Rattle.resolved.proofs.lower.Tie as tie
 
 abbrev Inv-loop : tie.InvT-loop
-Inv-loop schema table order n key low₀ high₀ low high = Between table order n key low high
+Inv-loop keys from to key high₀ rest₀ high rest = Between keys from to key high rest
 
 abbrev μ-loop : tie.MeasureT-loop
-μ-loop schema table order n key low₀ high₀ low high = high - low
+μ-loop keys from to key high₀ rest₀ high rest = rest
 
--- what a turn knows of the entry in the middle
-record Turn (t o : List ℕ) (n lo hi mid : ℕ) : Type 0 where
-  pub least : 1 ≤ getD o mid 0
-  pub most : getD o mid 0 ≤ usedAt t
-  pub small : usedAt t ≤ mostRecords
-  pub above : lo ≤ mid
-  pub below : mid < hi
-  pub within : mid < n
-
-turn : (c : tie.In-loop Inv-loop μ-loop) → Turn (c .before .before .before .before .before .args .table .now) (c .before .before .before .before .before .args .order .now) (c .before .before .before .before .before .args .n) (c .before .loop .low) (c .before .loop .high) (c .before .loop .low + (c .before .loop .high - c .before .loop .low) / 2)
-turn c =
-    let p = c .before .before .before .before .before .pre in
-    let v = c .before .loop .inv in
-    let l = c .loop-test .taken in
-    let mid = c .before .loop .low + (c .before .loop .high - c .before .loop .low) / 2 in
-    let w : mid < c .before .before .before .before .before .args .n = omega arith in
-    record {
-      least = p .2 .least mid w;
-      most = p .2 .within mid w;
-      small = used-most _ _ (p .0);
-      above = omega arith;
-      below = omega arith;
-      within = w;
-    }
+sub-rest : tie.Need-sub-rest Inv-loop μ-loop
+sub-rest c = search needs
 
 loop-holds : tie.Need-loop-holds Inv-loop μ-loop
-loop-holds c = between-start _ _ _ _
+loop-holds c = search needs
 
-sub-mid : tie.Need-sub-mid Inv-loop μ-loop
-sub-mid c = search needs
+sub-half : tie.Need-sub-half Inv-loop μ-loop
+sub-half c = search needs
 
-add-mid : tie.Need-add-mid Inv-loop μ-loop
-add-mid c = search needs
+sub-at-least : tie.Need-sub-at-least Inv-loop μ-loop
+sub-at-least c = search needs
 
-mul-key-at : tie.Need-mul-key-at Inv-loop μ-loop
-mul-key-at c = search needs
+mul-at-least : tie.Need-mul-at-least Inv-loop μ-loop
+mul-at-least c = search needs
 
-shared-slice-read-key-at : tie.Need-shared-slice-read-key-at Inv-loop μ-loop
-shared-slice-read-key-at c = search needs
+shared-slice-read-at-least : tie.Need-shared-slice-read-at-least Inv-loop μ-loop
+shared-slice-read-at-least c = search needs
 
-cast-key-at : tie.Need-cast-key-at Inv-loop μ-loop
-cast-key-at c = let v = turn (c .before) in omega arith
+at-least-requires : tie.Need-at-least-requires Inv-loop μ-loop
+at-least-requires c κs =
+    let b = c .before .before .loop .inv in
+    (c .before .before .before .before .pre .0 .small _ (omega (arith, b .part)) (omega (arith, b .most)), c .before .before .before .before .pre .1)
 
-key-at-requires : tie.Need-key-at-requires Inv-loop μ-loop
-key-at-requires c κs = (c .before .before .before .before .before .before .pre .0, turn (c .before) .least, turn (c .before) .most)
+mul-high : tie.Need-mul-high Inv-loop μ-loop
+mul-high c = let m = cut-most _ _ _ (c .before .before .before .loop .rest - c .before .before .before .loop .rest / 2) (c .at-least .ensures) in omega arith
 
-add-low : tie.Need-add-low Inv-loop μ-loop
-add-low c = search needs
+sub-high : tie.Need-sub-high Inv-loop μ-loop
+sub-high c = let m = cut-most _ _ _ (c .before .before .before .loop .rest - c .before .before .before .loop .rest / 2) (c .at-least .ensures) in omega arith
 
 loop-less : tie.Need-loop-less Inv-loop μ-loop
 loop-less c = search needs
 
 loop-again : tie.Need-loop-again Inv-loop μ-loop
-loop-again c = let v = turn (c .before .before .before) in between-up _ _ _ _ _ _ _ _ _ (c .before .before .before .before .before .before .before .before .pre .2) (c .before .before .before .before .loop .inv) (v .above) (v .below) (c .before .key-at .ensures) (c .if1 .taken)
-
-loop-less-2 : tie.Need-loop-less-2 Inv-loop μ-loop
-loop-less-2 c = search needs
-
-loop-again-2 : tie.Need-loop-again-2 Inv-loop μ-loop
-loop-again-2 c = let v = turn (c .before .before .before) in between-down _ _ _ _ _ _ _ _ _ (c .before .before .before .before .before .before .before .before .pre .2) (c .before .before .before .before .loop .inv) (v .above) (v .below) (c .before .key-at .ensures) (c .if1 .left)
+loop-again c = between-step _ _ _ _ _ _ _ _ (c .before .before .before .before .before .pre .0) (c .before .before .before .loop .inv) (c .before .before .loop-test .taken) refl (c .at-least .ensures)
 
 returns : tie.Need-returns Inv-loop μ-loop
 returns c = between-end _ _ _ _ _ _ (c .before .loop .inv) (c .loop-test .left)
@@ -87,16 +58,15 @@ lower-spec =
     (tie.spec
     Inv-loop
     μ-loop
+    sub-rest
     loop-holds
-    sub-mid
-    add-mid
-    mul-key-at
-    shared-slice-read-key-at
-    cast-key-at
-    key-at-requires
-    add-low
+    sub-half
+    sub-at-least
+    mul-at-least
+    shared-slice-read-at-least
+    at-least-requires
+    mul-high
+    sub-high
     loop-less
     loop-again
-    loop-less-2
-    loop-again-2
     returns)

@@ -1,55 +1,44 @@
 -- `resolved::resolve_field` meets its contract.
 -- Assumes nothing.
 use native.Mathlib.Omega.{arith}
-use Rattle.resolved.proofs.Refs.{resolved-plain, value-below, resolved-empty, resolved-absent, resolved-there}
+use Rattle.resolved.proofs.Refs.{fill-plain, leads-by, filled-by}
 use borrow.Author.Needs.{needs}
 use Rattle.resolved.proofs.resolve_field.Statement.{statement}
 use Rattle.resolved.proofs.resolve_field.Tie as tie
-
-relation-at-requires : tie.Need-relation-at-requires
-relation-at-requires c κs = search needs
 
 kind-at-requires : tie.Need-kind-at-requires
 kind-at-requires c κs = search needs
 
 returns : tie.Need-returns
-returns c = resolved-plain _ _ _ _ _ _ (c .before .before .relation-at .ensures) (c .before .kind-at .ensures) (c .if1 .taken)
+returns c = let p = c .before .before .before .before .before .before .before .pre in fill-plain _ _ _ _ _ _ (c .before .kind-at .ensures) (c .if1 .taken) (p .6) (p .7) (p .9)
 
-value-at-requires : tie.Need-value-at-requires
-value-at-requires c κs = search needs
+part-of-requires : tie.Need-part-of-requires
+part-of-requires c κs = search needs
+
+part-of-requires-2 : tie.Need-part-of-requires-2
+part-of-requires-2 c κs = search needs
+
+resolve-all-requires : tie.Need-resolve-all-requires
+resolve-all-requires c κs =
+    let p = c .before .before .before .before .before .before .before .before .before .before .pre in
+    let u = c .before .before .part-of .ensures in
+    let v = c .before .part-of2 .ensures in
+    (p .0, u .1, v .1, p .6, p .7, leads-by _ _ _ _ _ _ (u .0) (v .0) (c .before .before .before .before .kind-at .ensures) (c .before .before .before .if1 .left), p .8, filled-by _ _ _ _ _ (omega (arith, u .0)) (p .9))
+
+same-length : tie.Need-same-length
+same-length c = search needs
 
 returns-2 : tie.Need-returns-2
-returns-2 c = resolved-empty _ _ _ _ _ _ (c .before .before .before .before .relation-at .ensures) (c .before .before .before .kind-at .ensures) _ (c .before .value-at .ensures) (c .before .before .if1 .left) (c .if2 .taken)
-
-mul-find : tie.Need-mul-find
-mul-find c = omega arith
-
-add-find : tie.Need-add-find
-add-find c =
-    let p = c .before .before .before .before .before .before .before .before .pre in
-    let l = value-below _ _ _ _ _ _ (c .before .before .before .before .relation-at .ensures) (c .before .before .before .kind-at .ensures) _ (c .before .value-at .ensures) (p .0) (p .3) (p .4) (p .5) (p .6) (c .before .before .if1 .left) in
-    omega arith
-
-find-requires : tie.Need-find-requires
-find-requires c κs = search needs
-
-returns-3 : tie.Need-returns-3
-returns-3 c = resolved-absent _ _ _ _ _ _ (c .before .before .before .before .before .before .relation-at .ensures) (c .before .before .before .before .before .kind-at .ensures) _ (c .before .before .before .value-at .ensures) (c .before .before .before .before .if1 .left) _ (c .before .find .ensures) (c .before .before .if2 .left) (c .if3 .taken)
-
-returns-4 : tie.Need-returns-4
-returns-4 c = resolved-there _ _ _ _ _ _ (c .before .before .before .before .before .before .relation-at .ensures) (c .before .before .before .before .before .kind-at .ensures) _ (c .before .before .before .value-at .ensures) (c .before .before .before .before .if1 .left) _ (c .before .find .ensures) (c .before .before .if2 .left) (c .if3 .left)
+returns-2 c = filled-by _ _ _ _ _ (omega (arith, c .before .before .before .before .before .part-of .ensures .0)) (c .before .before .resolve-all .ensures)
 
 pub resolve-field-spec : {M : Type 1} → statement M
 resolve-field-spec =
     tie.close
     (tie.spec
-    relation-at-requires
     kind-at-requires
     returns
-    value-at-requires
-    returns-2
-    mul-find
-    add-find
-    find-requires
-    returns-3
-    returns-4)
+    part-of-requires
+    part-of-requires-2
+    resolve-all-requires
+    same-length
+    returns-2)

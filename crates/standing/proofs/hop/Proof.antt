@@ -21,16 +21,27 @@ returns c =
     let p = c .before .before .before .before .before .before .before .pre in
     (p .5, more-same _ _ _ _, hop-none _ _ _ _ _ _ (c .before .abort-target .ensures) (c .if1 .taken))
 
+sub-if2 : tie.Need-sub-if2
+sub-if2 c = search needs
+
+slice-read-if2 : tie.Need-slice-read-if2
+slice-read-if2 c = let g = c .before .before .abort-target .ensures in let z = c .before .if1 .left in omega (arith, c .before .before .before .before .before .before .before .before .pre .3)
+
+returns-2 : tie.Need-returns-2
+returns-2 c =
+    let p = c .before .before .before .before .before .before .before .before .before .pre in
+    (p .5, more-same _ _ _ _, hop-marked _ _ _ _ _ _ (c .before .before .before .abort-target .ensures) (c .before .before .if1 .left) (c .if2 .taken))
+
 complete-requires : tie.Need-complete-requires
 complete-requires c κs = search needs
 
 add-requires : tie.Need-add-requires
 add-requires c κs =
-    let p = c .before .before .before .before .before .before .before .before .before .before .before .pre in
-    let g = c .before .before .before .before .before .abort-target .ensures in
-    let z = c .before .before .before .before .if1 .left in
+    let p = c .before .before .before .before .before .before .before .before .before .before .before .before .before .pre in
+    let g = c .before .before .before .before .before .before .before .abort-target .ensures in
+    let z = c .before .before .before .before .before .before .if1 .left in
     let m = used-most _ _ (p .0) in
-    let a : 1 ≤ c .before .before .before .before .before .abort-target .result = omega arith in
+    let a : 1 ≤ c .before .before .before .before .before .before .before .abort-target .result = omega arith in
     (a, omega arith, omega arith, omega arith, λ u. let r = queue-more _ _ _ _ _ (p .5) _ a (g .within) u in omega arith)
 
 same-length : tie.Need-same-length
@@ -39,22 +50,22 @@ same-length c = search needs
 same-length-2 : tie.Need-same-length-2
 same-length-2 c = search needs
 
-returns-2 : tie.Need-returns-2
-returns-2 c =
-    let p = c .before .before .before .before .before .before .before .before .before .before .before .before .before .before .before .before .pre in
-    let g = c .before .before .before .before .before .before .before .before .before .before .abort-target .ensures in
-    let z = c .before .before .before .before .before .before .before .before .before .if1 .left in
+returns-3 : tie.Need-returns-3
+returns-3 c =
+    let p = c .before .before .before .before .before .before .before .before .before .before .before .before .before .before .before .before .before .before .pre in
+    let g = c .before .before .before .before .before .before .before .before .before .before .before .before .abort-target .ensures in
+    let z = c .before .before .before .before .before .before .before .before .before .before .before .if1 .left in
     let m = used-most _ _ (p .0) in
-    let a : 1 ≤ c .before .before .before .before .before .before .before .before .before .before .abort-target .result = omega arith in
-    let st = hop-stands _ _ (p .0) _ _ _ (p .6) (p .7) (p .9) (p .10) a (g .within) (p .5 .stands _ (p .6) (p .7) (p .8)) (g .abort z) (g .there z) (sym (c .before .before .before .before .before .before .before .before .complete .ensures) ∙ c .before .before .before .before .before .before .before .if2 .taken) in
+    let a : 1 ≤ c .before .before .before .before .before .before .before .before .before .before .before .before .abort-target .result = omega arith in
+    let st = hop-stands _ _ (p .0) _ _ _ (p .6) (p .7) (p .9) (p .10) a (g .within) (p .5 .stands _ (p .6) (p .7) (p .8)) (g .abort z) (g .there z) (sym (c .before .before .before .before .before .before .before .before .complete .ensures) ∙ c .before .before .before .before .before .before .before .if3 .taken) in
     let x = queue-add _ _ _ _ _ _ (p .5) a (g .within) st (p .3) (omega arith) _ _ _ (c .before .before .before .before .add .ensures) in
     (x .queue, x .more, hop-marked _ _ _ _ _ _ g z (x .marked))
 
-returns-3 : tie.Need-returns-3
-returns-3 c =
-    let p = c .before .before .before .before .before .before .before .before .before .pre in
-    let g = c .before .before .before .abort-target .ensures in
-    (p .5, more-same _ _ _ _, hop-incomplete _ _ _ _ _ _ g (c .before .before .if1 .left) (sym (c .before .complete .ensures) ∙ c .if2 .left))
+returns-4 : tie.Need-returns-4
+returns-4 c =
+    let p = c .before .before .before .before .before .before .before .before .before .before .before .pre in
+    let g = c .before .before .before .before .before .abort-target .ensures in
+    (p .5, more-same _ _ _ _, hop-incomplete _ _ _ _ _ _ g (c .before .before .before .before .if1 .left) (sym (c .before .complete .ensures) ∙ c .if3 .left))
 
 pub hop-spec : {M : Type 1} → statement M
 hop-spec =
@@ -62,9 +73,12 @@ hop-spec =
     (tie.spec
     abort-target-requires
     returns
+    sub-if2
+    slice-read-if2
+    returns-2
     complete-requires
     add-requires
     same-length
     same-length-2
-    returns-2
-    returns-3)
+    returns-3
+    returns-4)
