@@ -1,0 +1,372 @@
+//! The benchmark: each call of the library against the second implementation and against a plain copy of the words that it
+//! is lent, side by side in one run. It prints a table and, with a path as its argument, writes the picture of it.
+
+mod library;
+mod picture;
+mod tables;
+
+use second::random::Random;
+use std::hint::black_box;
+use std::time::Instant;
+use tables::Subject;
+
+const SIZES: [usize; 4] = [64, 256, 1024, 4096];
+const DELTA: usize = 196;
+
+/// One line: a call on a subject, with nanoseconds for each size.
+pub struct Line {
+    pub call: &'static str,
+    pub subject: &'static str,
+    /// What the plain figure is: the words copied once, or read once.
+    pub plain: &'static str,
+    pub library: Vec<f64>,
+    pub second: Vec<f64>,
+    pub base: Vec<f64>,
+}
+
+/// The least of several timings, in nanoseconds. `before` makes the input and is not timed.
+fn timed<T>(times: usize, mut before: impl FnMut() -> T, mut call: impl FnMut(&mut T)) -> f64 {
+    let mut least = f64::MAX;
+    for _ in 0..times {
+        let mut input = before();
+        let start = Instant::now();
+        call(&mut input);
+        let spent = start.elapsed().as_nanos() as f64;
+        black_box(&mut input);
+        least = least.min(spent);
+    }
+    least
+}
+
+/// Many calls in one timing, for calls of a few nanoseconds.
+fn quick(mut call: impl FnMut()) -> f64 {
+    const CALLS: usize = 1000;
+    timed(20, || (), |_| (0..CALLS).for_each(|_| call())) / CALLS as f64
+}
+
+fn times(size: usize) -> usize {
+    (40_000 / size).clamp(12, 200)
+}
+
+/// A table read once, word by word.
+fn pass(table: &[u64]) -> f64 {
+    timed(
+        200,
+        || (),
+        |_| {
+            black_box(black_box(table).iter().fold(0u64, |sum, word| sum.wrapping_add(*word)));
+        },
+    )
+}
+
+/// Tables copied once.
+fn copy(tables: &[&[u64]]) -> f64 {
+    let mut into: Vec<Vec<u64>> = tables.iter().map(|table| vec![0; table.len()]).collect();
+    timed(
+        200,
+        || (),
+        |_| {
+            for (to, from) in into.iter_mut().zip(tables) {
+                black_box(to).copy_from_slice(black_box(from));
+            }
+        },
+    )
+}
+
+fn line(
+    call: &'static str,
+    plain: &'static str,
+    subjects: &[Subject],
+    mut measure: impl FnMut(&Subject, usize) -> (f64, f64, f64),
+) -> Line {
+    let mut made = Line {
+        call,
+        subject: subjects[0].name,
+        plain,
+        library: Vec::new(),
+        second: Vec::new(),
+        base: Vec::new(),
+    };
+    for (subject, size) in subjects.iter().zip(SIZES) {
+        let (library, second, base) = measure(subject, size);
+        made.library.push(library);
+        made.second.push(second);
+        made.base.push(base);
+    }
+    made
+}
+
+fn checks(subjects: &[Subject]) -> Line {
+    line("table check", "pass", subjects, |x, size| {
+        assert_eq!(library::table_check(&x.schema, &x.full), 0);
+        (
+            timed(
+                times(size),
+                || (),
+                |_| {
+                    black_box(library::table_check(&x.schema, black_box(&x.full)));
+                },
+            ),
+            timed(
+                12,
+                || (),
+                |_| {
+                    let _ = black_box(second::table_check(&x.schema, &x.full));
+                },
+            ),
+            pass(&x.full),
+        )
+    })
+}
+
+fn schemas(subjects: &[Subject]) -> Line {
+    line("schema check", "pass", subjects, |x, _| {
+        (
+            quick(|| {
+                black_box(library::schema_check(black_box(&x.schema)));
+            }),
+            quick(|| {
+                let _ = black_box(second::schema_check(black_box(&x.schema)));
+            }),
+            quick(|| {
+                black_box(
+                    black_box(&x.schema).iter().fold(0u64, |sum, word| sum.wrapping_add(*word)),
+                );
+            }),
+        )
+    })
+}
+
+fn starts(subjects: &[Subject]) -> Line {
+    line("start", "copy", subjects, |x, size| {
+        (
+            timed(times(size), || x.full.clone(), |t| assert_eq!(library::start(t, 3), 0)),
+            timed(12, || x.full.clone(), |t| assert!(second::start(t, 3).is_ok())),
+            copy(&[&x.full]),
+        )
+    })
+}
+
+fn merges(subjects: &[Subject]) -> Line {
+    line("merge", "copy of both", subjects, |x, size| {
+        let own = || x.own.clone();
+        (
+            timed(times(size), own, |t| assert_eq!(library::merge(&x.schema, t, &x.other), 0)),
+            timed(12, own, |t| assert!(second::merge(&x.schema, t, &x.other).is_ok())),
+            copy(&[&x.own, &x.other]),
+        )
+    })
+}
+
+fn marks(subjects: &[Subject]) -> Line {
+    line("marks", "pass", subjects, |x, size| {
+        let bytes = || vec![0u8; size];
+        let (answer, count) = library::marks(&x.schema, &x.full, &mut bytes());
+        assert_eq!(answer, 0);
+        assert_eq!(second::marks(&x.schema, &x.full, &mut bytes()).ok(), Some(count));
+        (
+            timed(times(size).min(40), bytes, |m| {
+                black_box(library::marks(&x.schema, &x.full, m));
+            }),
+            timed(3, bytes, |m| {
+                let _ = black_box(second::marks(&x.schema, &x.full, m));
+            }),
+            pass(&x.full),
+        )
+    })
+}
+
+fn walks(subjects: &[Subject]) -> Line {
+    line("walk, one step", "pass", subjects, |x, size| {
+        let mut bytes = vec![0u8; size];
+        library::marks(&x.schema, &x.full, &mut bytes);
+        (
+            timed(
+                times(size),
+                || 0u64,
+                |place| {
+                    black_box(library::walk(&x.schema, &x.full, &bytes, place));
+                },
+            ),
+            timed(
+                12,
+                || 0u64,
+                |place| {
+                    let _ = black_box(second::walk(&x.schema, &x.full, &bytes, place));
+                },
+            ),
+            pass(&x.full),
+        )
+    })
+}
+
+fn values(subjects: &[Subject]) -> Line {
+    line("values", "pass of 8 words", subjects, |x, size| {
+        let mut random = Random::new(3);
+        let index = 1 + random.below(size as u64) as usize;
+        (
+            quick(|| {
+                black_box(library::values(black_box(&x.full), black_box(index)));
+            }),
+            quick(|| {
+                black_box(second::values(black_box(&x.full), black_box(index as u64)));
+            }),
+            quick(|| {
+                let at = 16 + 20 * (black_box(index) - 1) + 4;
+                black_box(
+                    x.full[at..at + 8].iter().fold(0u64, |sum, word| sum.wrapping_add(*word)),
+                );
+            }),
+        )
+    })
+}
+
+/// The index of the last shown record of a relation.
+fn last_shown(x: &Subject, size: usize, relation: u64) -> usize {
+    let mut bytes = vec![0u8; size];
+    library::marks(&x.schema, &x.own, &mut bytes);
+    let of = |at: &usize| x.own[16 + 20 * (at - 1) + 1] == relation && bytes[at - 1] == 1;
+    (1..=x.own[2] as usize).rev().find(of).unwrap_or(1)
+}
+
+/// The edits of a barn table; the plain figure is the time of marks and of the merge of a delta, by the library.
+fn edits(subjects: &[Subject]) -> Vec<Line> {
+    const PLAIN: &str = "marks and merge of the delta";
+    let sum = |x: &Subject, size: usize, delta: &[u64]| {
+        timed(
+            times(size).min(40),
+            || vec![0u8; size],
+            |m| {
+                black_box(library::marks(&x.schema, &x.own, m));
+            },
+        ) + timed(
+            times(size),
+            || x.own.clone(),
+            |t| {
+                assert_eq!(library::merge(&x.schema, t, delta), 0);
+            },
+        )
+    };
+    let own = |x: &Subject| (x.own.clone(), vec![0u64; DELTA]);
+    let insertion = line("insertion", PLAIN, subjects, |x, size| {
+        let cow = x.own[16 + 20 * (last_shown(x, size, 2) - 1) + 2];
+        let robot = x.own[16 + 20 * (last_shown(x, size, 3) - 1) + 2];
+        let fields = [cow, robot, 9000, 385, 100];
+        let (mut t, mut d) = own(x);
+        assert_eq!(library::insert(&x.schema, &mut t, &mut d, 4, &fields).0, 0);
+        (
+            timed(
+                times(size).min(40),
+                || own(x),
+                |(t, d)| {
+                    black_box(library::insert(&x.schema, t, d, 4, &fields));
+                },
+            ),
+            timed(
+                3,
+                || own(x),
+                |(t, d)| {
+                    assert!(second::insertion(&x.schema, t, d, 4, &fields).is_ok());
+                },
+            ),
+            sum(x, size, &d),
+        )
+    });
+    let update = line("update", PLAIN, subjects, |x, size| {
+        let index = last_shown(x, size, 4);
+        let (mut t, mut d) = own(x);
+        assert_eq!(library::update(&x.schema, &mut t, &mut d, index, 3, 9100), 0);
+        (
+            timed(
+                times(size).min(40),
+                || own(x),
+                |(t, d)| {
+                    black_box(library::update(&x.schema, t, d, index, 3, 9100));
+                },
+            ),
+            timed(
+                3,
+                || own(x),
+                |(t, d)| {
+                    assert!(second::update(&x.schema, t, d, index as u64, 3, 9100).is_ok());
+                },
+            ),
+            sum(x, size, &d),
+        )
+    });
+    let deletion = line("deletion", PLAIN, subjects, |x, size| {
+        let index = last_shown(x, size, 4);
+        let (mut t, mut d) = own(x);
+        assert_eq!(library::delete(&x.schema, &mut t, &mut d, index), 0);
+        (
+            timed(
+                times(size).min(40),
+                || own(x),
+                |(t, d)| {
+                    black_box(library::delete(&x.schema, t, d, index));
+                },
+            ),
+            timed(
+                3,
+                || own(x),
+                |(t, d)| {
+                    assert!(second::deletion(&x.schema, t, d, index as u64).is_ok());
+                },
+            ),
+            sum(x, size, &d),
+        )
+    });
+    vec![insertion, update, deletion]
+}
+
+fn time(nanoseconds: f64) -> String {
+    if nanoseconds < 1000.0 {
+        format!("{nanoseconds:.1} ns")
+    } else if nanoseconds < 1_000_000.0 {
+        format!("{:.1} µs", nanoseconds / 1000.0)
+    } else {
+        format!("{:.2} ms", nanoseconds / 1_000_000.0)
+    }
+}
+
+fn print(lines: &[Line]) {
+    println!("| Call | Table | N = 64 | 256 | 1,024 | 4,096 | 1,024 to 4,096 | times a plain | second / library |");
+    println!("|---|---|---|---|---|---|---|---|---|");
+    for made in lines {
+        let cells: Vec<String> = made.library.iter().map(|spent| time(*spent)).collect();
+        println!(
+            "| {} | {} | {} | {:.1} | {:.1} {} | {:.1} |",
+            made.call,
+            made.subject,
+            cells.join(" | "),
+            made.library[3] / made.library[2],
+            made.library[3] / made.base[3],
+            made.plain,
+            made.second[3] / made.library[3],
+        );
+    }
+}
+
+fn main() {
+    let barns: Vec<Subject> = SIZES.map(tables::barn_subject).into();
+    let keys: Vec<Subject> = SIZES.map(tables::keys_subject).into();
+    let chains: Vec<Subject> = SIZES.map(tables::chain_subject).into();
+    let mut lines = vec![
+        schemas(&barns),
+        checks(&barns),
+        checks(&keys),
+        starts(&barns),
+        merges(&barns),
+        merges(&keys),
+        marks(&barns),
+        marks(&keys),
+        marks(&chains),
+        walks(&barns),
+        values(&barns),
+    ];
+    lines.extend(edits(&barns));
+    print(&lines);
+    if let Some(path) = std::env::args().nth(1) {
+        std::fs::write(path, picture::svg(&lines, &SIZES)).expect("the picture is written");
+    }
+}
