@@ -2,12 +2,13 @@
 //!
 //! docs/VECTORS.md tells the format.
 
+mod edges;
 mod fleet;
 mod generate;
 mod stream;
 
 pub use fleet::{fleet_comparisons, Fleet};
-pub use generate::{called_table, random_edit, vectors, Edit};
+pub use generate::{random_edit, vectors, Edit};
 pub use stream::{expect, read, write};
 
 use crate::label::{delete, join_flags, join_registers, label_of, redo, Register};
@@ -101,26 +102,26 @@ pub const SHAPES: [Shape; 26] = [
     shape("start", &[TABLE], 1, 0, &[TABLE], true),
     shape("values", &[TABLE], 1, 8, &[], true),
     shape("merge", &[SCHEMA, TABLE, THIRD], 0, 0, &[TABLE], true),
-    shape("insertion", &[SCHEMA, TABLE, THIRD, VALUES], 1, 1, &[TABLE, THIRD], false),
-    shape("update", &[SCHEMA, TABLE, THIRD], 3, 0, &[TABLE, THIRD], false),
-    shape("deletion", &[SCHEMA, TABLE, THIRD], 1, 0, &[TABLE, THIRD], false),
+    shape("insertion", &[SCHEMA, TABLE, THIRD, VALUES], 1, 1, &[TABLE, THIRD], true),
+    shape("update", &[SCHEMA, TABLE, THIRD], 3, 0, &[TABLE, THIRD], true),
+    shape("deletion", &[SCHEMA, TABLE, THIRD], 1, 0, &[TABLE, THIRD], true),
     shape("marks", &[SCHEMA, TABLE, THIRD], 0, 1, &[THIRD], true),
     shape("walk", &[SCHEMA, TABLE, THIRD], 1, 2, &[], true),
-    shape("fleet_begin", &[SCHEMA], 4, 1, &[], false),
-    shape("fleet_start", &[], 2, 1, &[], false),
-    shape("fleet_copy", &[], 2, 1, &[], false),
-    shape("fleet_copy_delta", &[], 1, 1, &[], false),
-    shape("fleet_spoil", &[], 3, 1, &[], false),
-    shape("fleet_merge", &[], 2, 1, &[], false),
-    shape("fleet_insertion", &[VALUES], 2, 2, &[], false),
-    shape("fleet_update", &[], 4, 1, &[], false),
-    shape("fleet_deletion", &[], 2, 1, &[], false),
-    shape("fleet_marks", &[], 1, 2, &[], false),
-    shape("fleet_walk", &[], 2, 2, &[], false),
+    shape("fleet_begin", &[SCHEMA], 6, 1, &[], true),
+    shape("fleet_start", &[], 2, 1, &[], true),
+    shape("fleet_copy", &[], 2, 1, &[], true),
+    shape("fleet_copy_delta", &[], 1, 1, &[], true),
+    shape("fleet_spoil", &[], 3, 1, &[], true),
+    shape("fleet_merge", &[], 2, 1, &[], true),
+    shape("fleet_insertion", &[VALUES], 2, 2, &[], true),
+    shape("fleet_update", &[], 4, 1, &[], true),
+    shape("fleet_deletion", &[], 2, 1, &[], true),
+    shape("fleet_marks", &[], 1, 2, &[], true),
+    shape("fleet_walk", &[], 2, 2, &[], true),
 ];
 
 /// The names of the categories, from category 1 on.
-pub const CATEGORIES: [&str; 25] = [
+pub const CATEGORIES: [&str; 32] = [
     "labels, registers and flags",
     "schemas at their limits",
     "schemas with one rule broken",
@@ -146,6 +147,13 @@ pub const CATEGORIES: [&str; 25] = [
     "edits",
     "the order of the refusals",
     "fleets",
+    "edge: used = N - 1 inserts",
+    "edge: used = N gives 11",
+    "edge: N = 0 starts and shows nothing",
+    "edge: clock 2^40 - 2 inserts",
+    "edge: flag 65,534 may be deleted",
+    "edge: merging a copy of itself changes no word",
+    "edge: the end only past the last shown record",
 ];
 
 pub fn shape_of(call: u8) -> Option<&'static Shape> {

@@ -1,9 +1,11 @@
 // One function for each call: it takes the inputs from the stream, makes the call and compares.
+use crate::calls;
 use crate::rows;
 use crate::stream;
 use crate::stream::Cursor;
 use crate::stream::Exit;
 use crate::stream::number;
+use answers::InsertionAnswer;
 use answers::MarksAnswer;
 use crdt::Label;
 use crdt::Register;
@@ -19,9 +21,12 @@ pub struct Back {
     pub good: bool,
 }
 
+// The calls of a fleet begin here.
+const FLEET: u64 = 16;
+
 // Whether the library has the call.
 pub fn runs(call: u64) -> bool {
-    (call <= 10) | (call == 14) | (call == 15)
+    call <= 26
 }
 
 pub fn run(
@@ -33,6 +38,8 @@ pub fn run(
     own: &mut [u64],
     third: &mut [u64],
     values: &mut [u64],
+    fleet: &mut [u64],
+    delta: &mut [u64],
 ) -> Back {
     match call {
         1 => label_of(s, c),
@@ -40,12 +47,12 @@ pub fn run(
         3 => flag_join(s, c),
         4 => delete(s, c),
         5 => redo(s, c),
-        _ => with_slices(s, c, call, rows, schema, own, third, values),
+        _ => with_slices(s, c, call, rows, schema, own, third, values, fleet, delta),
     }
 }
 
 // The told answer, at an index, against the one that came back.
-fn answered(s: &[u8], at: usize, words: u64, sum: u64, got: u64) -> Back {
+pub fn answered(s: &[u8], at: usize, words: u64, sum: u64, got: u64) -> Back {
     let answer = number(s, at);
     Back {
         at: answer.at,
@@ -57,7 +64,7 @@ fn answered(s: &[u8], at: usize, words: u64, sum: u64, got: u64) -> Back {
 }
 
 // The next told result against the one that came back.
-fn with_result(s: &[u8], back: Back, got: u64) -> Back {
+pub fn with_result(s: &[u8], back: Back, got: u64) -> Back {
     let told = number(s, back.at);
     Back {
         at: told.at,
@@ -127,14 +134,14 @@ fn load_if(present: u64, s: &[u8], c: Cursor, buffer: &mut [u64]) -> Cursor {
 
 // The slices of an item are in the buffers: where each begins in the stream, and the cursor's
 // fields after them.
-struct Inputs {
-    schema: usize,
-    own: usize,
-    third: usize,
-    values: usize,
-    at: usize,
-    words: u64,
-    sum: u64,
+pub struct Inputs {
+    pub schema: usize,
+    pub own: usize,
+    pub third: usize,
+    pub values: usize,
+    pub at: usize,
+    pub words: u64,
+    pub sum: u64,
 }
 
 fn load_inputs(
@@ -331,6 +338,114 @@ fn walk_in(schema: &[u64], own: &[u64], third: &[u64], bytes: &mut [u8], place: 
     walk::advance(schema, own, bytes, place as usize)
 }
 
+fn insertion(
+    s: &[u8],
+    taken: Inputs,
+    schema: &[u64],
+    own: &mut [u64],
+    third: &mut [u64],
+    values: &[u64],
+) -> Back {
+    let relation = number(s, taken.at);
+    let got = insert_in(s, taken, schema, own, third, values, relation.value);
+    let back = answered(s, relation.at, taken.words, taken.sum, got.number());
+    with_edit(s, with_result(s, back, got.label()), taken, own, third)
+}
+
+fn insert_in(
+    s: &[u8],
+    taken: Inputs,
+    schema: &[u64],
+    own: &mut [u64],
+    third: &mut [u64],
+    values: &[u64],
+    relation: u64,
+) -> InsertionAnswer {
+    let n = stream::words_of(s, taken.schema, schema);
+    let m = stream::words_of(s, taken.own, own);
+    let k = stream::words_of(s, taken.third, third);
+    let v = stream::words_of(s, taken.values, values);
+    edits::insertion(
+        &schema[0..n],
+        &mut own[0..m],
+        &mut third[0..k],
+        relation as usize,
+        &values[0..v],
+    )
+}
+
+fn update(s: &[u8], taken: Inputs, schema: &[u64], own: &mut [u64], third: &mut [u64]) -> Back {
+    let index = number(s, taken.at);
+    let field = number(s, index.at);
+    let value = number(s, field.at);
+    let got = update_in(
+        s,
+        taken,
+        schema,
+        own,
+        third,
+        index.value,
+        field.value,
+        value.value,
+    );
+    let back = answered(s, value.at, taken.words, taken.sum, got);
+    with_edit(s, back, taken, own, third)
+}
+
+fn update_in(
+    s: &[u8],
+    taken: Inputs,
+    schema: &[u64],
+    own: &mut [u64],
+    third: &mut [u64],
+    index: u64,
+    field: u64,
+    value: u64,
+) -> u64 {
+    let n = stream::words_of(s, taken.schema, schema);
+    let m = stream::words_of(s, taken.own, own);
+    let k = stream::words_of(s, taken.third, third);
+    edits::update(
+        &schema[0..n],
+        &mut own[0..m],
+        &mut third[0..k],
+        index as usize,
+        field as usize,
+        value,
+    ).number()
+}
+
+fn deletion(s: &[u8], taken: Inputs, schema: &[u64], own: &mut [u64], third: &mut [u64]) -> Back {
+    let index = number(s, taken.at);
+    let got = delete_in(s, taken, schema, own, third, index.value);
+    let back = answered(s, index.at, taken.words, taken.sum, got);
+    with_edit(s, back, taken, own, third)
+}
+
+fn delete_in(
+    s: &[u8],
+    taken: Inputs,
+    schema: &[u64],
+    own: &mut [u64],
+    third: &mut [u64],
+    index: u64,
+) -> u64 {
+    let n = stream::words_of(s, taken.schema, schema);
+    let m = stream::words_of(s, taken.own, own);
+    let k = stream::words_of(s, taken.third, third);
+    edits::deletion(
+        &schema[0..n],
+        &mut own[0..m],
+        &mut third[0..k],
+        index as usize,
+    ).number()
+}
+
+// The told exits of the table and of the delta.
+fn with_edit(s: &[u8], back: Back, taken: Inputs, own: &[u64], third: &[u64]) -> Back {
+    with_exit(s, with_exit(s, back, taken.own, own), taken.third, third)
+}
+
 // Runs an item whose slices are in the buffers.
 fn run_loaded(
     s: &[u8],
@@ -348,6 +463,9 @@ fn run_loaded(
         8 => start(s, taken, own),
         9 => values_of(s, taken, own),
         10 => merge(s, taken, schema, own, third),
+        11 => insertion(s, taken, schema, own, third, values),
+        12 => update(s, taken, schema, own, third),
+        13 => deletion(s, taken, schema, own, third),
         14 => marks(s, taken, schema, own, third),
         15 => walk(s, taken, schema, own, third),
         _ => rest(s, call, rows, taken, own, third),
@@ -364,7 +482,12 @@ fn with_slices(
     own: &mut [u64],
     third: &mut [u64],
     values: &mut [u64],
+    fleet: &mut [u64],
+    delta: &mut [u64],
 ) -> Back {
     let taken = load_inputs(s, c, call, rows, schema, own, third, values);
+    if FLEET <= call {
+        return calls::run(s, call, taken, fleet, delta, schema, own, third, values);
+    }
     run_loaded(s, call, rows, taken, schema, own, third, values)
 }

@@ -1,6 +1,8 @@
 // Reads the vector stream from standard input, runs its items on the library and compares what
 // comes back. It prints the first ten mismatches, the counts, and the calls that are left out.
 // docs/VECTORS.md tells the stream's format and how a call is added.
+mod calls;
+mod fleet;
 mod items;
 mod report;
 mod rows;
@@ -31,6 +33,8 @@ fn run(s: &[u8], own: &mut [u64], third: &mut [u64]) {
     let mut rows = [0u64; 1024];
     let mut schema = [0u64; 256];
     let mut values = [0u64; 64];
+    let mut fleet = [0u64; fleet::WORDS];
+    let mut delta = [0; 196];
     let mut counts = [0u64; 1024];
     let begin = stream::load(s, stream::begin(0), &mut rows);
     run_all(
@@ -41,6 +45,8 @@ fn run(s: &[u8], own: &mut [u64], third: &mut [u64]) {
         own,
         third,
         &mut values,
+        &mut fleet,
+        &mut delta,
         &mut counts,
     );
     report::report(&rows, &counts);
@@ -55,6 +61,8 @@ fn run_all(
     own: &mut [u64],
     third: &mut [u64],
     values: &mut [u64],
+    fleet: &mut [u64],
+    delta: &mut [u64],
     counts: &mut [u64],
 ) {
     let told = stream::number(s, at);
@@ -62,7 +70,19 @@ fn run_all(
     let mut c = stream::begin(told.at);
     let mut i = 0;
     while i < count {
-        c = run_item(s, c, i, rows, schema, own, third, values, counts);
+        c = run_item(
+            s,
+            c,
+            i,
+            rows,
+            schema,
+            own,
+            third,
+            values,
+            fleet,
+            delta,
+            counts,
+        );
         i += 1;
     }
     tally::put_sums(counts, count as u64, c.words, c.sum);
@@ -77,6 +97,8 @@ fn run_item(
     own: &mut [u64],
     third: &mut [u64],
     values: &mut [u64],
+    fleet: &mut [u64],
+    delta: &mut [u64],
     counts: &mut [u64],
 ) -> Cursor {
     let category = stream::byte(s, c.at);
@@ -91,6 +113,8 @@ fn run_item(
         own,
         third,
         values,
+        fleet,
+        delta,
     );
     tally::count_item(counts, category, call, back.answer);
     tally::count_match(counts, i, back.good);

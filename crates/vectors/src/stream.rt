@@ -91,6 +91,14 @@ pub fn after(at: usize) -> usize {
     at
 }
 
+// A sum of indices, or the first where it has no room.
+pub fn plus(at: usize, k: u64) -> usize {
+    if at < 4294967296 {
+        return at + (k % 4294967296) as usize;
+    }
+    at
+}
+
 pub fn least(a: u64, b: usize) -> usize
     ensures { λ r. ⌜ r ≤ b ⌝ }
 {

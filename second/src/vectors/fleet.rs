@@ -3,17 +3,24 @@
 use super::generate::{random_edit, Edit};
 use super::stream::digest;
 use super::*;
+use crate::label::LARGEST_COUNTER;
 use crate::random::{self, Random};
 use crate::table::{Record, Table, DELTA_WORDS, HEADER, RECORD};
 use std::collections::BTreeSet;
 
-/// Slots 0 to 3 are the tables of the fleet, slots 4 to 7 copies.
+/// Slots 0 to 4 are the tables of the fleet, of which it has three to five; slots 5 to 7 are copies.
 pub const SLOTS: usize = 8;
-pub const TABLES: usize = 4;
+pub const TABLES: usize = 5;
+/// The category of the fleets.
+const CATEGORY: u8 = 25;
+/// The words of the clock in a table and of the flag in a record.
+const CLOCK: u64 = 1;
+const FLAG: usize = 3;
 
 #[derive(Clone)]
 pub struct Fleet {
     pub schema: Vec<u64>,
+    pub tables: u64,
     pub slots: Vec<Vec<u64>>,
     pub delta: Vec<u64>,
     pub marks: Vec<u8>,
@@ -23,6 +30,7 @@ impl Default for Fleet {
     fn default() -> Fleet {
         Fleet {
             schema: Vec::new(),
+            tables: 0,
             slots: vec![vec![0; HEADER]; SLOTS],
             delta: vec![0; DELTA_WORDS],
             marks: Vec::new(),
@@ -41,9 +49,10 @@ impl Fleet {
         sum
     }
 
-    fn begin(&mut self, schema: &[u64], capacities: &[u64]) {
+    fn begin(&mut self, schema: &[u64], tables: u64, capacities: &[u64]) {
         *self = Fleet::default();
         self.schema = schema.to_vec();
+        self.tables = tables;
         for (slot, capacity) in self.slots.iter_mut().zip(capacities) {
             *slot = vec![0; HEADER + RECORD * *capacity as usize];
         }
@@ -60,7 +69,7 @@ impl Fleet {
         let mut results = vec![];
         let answer = match item.call {
             FLEET_BEGIN => {
-                self.begin(&item.slices[0], w);
+                self.begin(&item.slices[0], w[0], &w[1..]);
                 0
             }
             FLEET_START => number(&start(&mut self.slots[slot], w[1])),
@@ -111,20 +120,38 @@ impl Fleet {
 }
 
 fn item(call: u8, slices: Vec<Vec<u64>>, words: Vec<u64>) -> Item {
-    Item { category: CATEGORIES.len() as u8, call, slices, words }
+    Item { category: CATEGORY, call, slices, words }
 }
 
 /// The first items of a fleet: its tables, of which most are started.
 pub fn begin(random: &mut Random) -> Vec<Item> {
-    let capacities =
-        (0..TABLES).map(|_| random.pick(&[0, 3, 8, 12, 16, 24, 24, 24])).collect::<Vec<u64>>();
-    let mut items = vec![item(FLEET_BEGIN, vec![random::schema(random)], capacities)];
+    let tables = 3 + random.below(3);
+    let mut numbers = vec![tables];
     for slot in 0..TABLES as u64 {
+        let capacity = random.pick(&[0, 3, 8, 12, 16, 24, 24, 24]);
+        numbers.push(if slot < tables { capacity } else { 0 });
+    }
+    let mut items = vec![item(FLEET_BEGIN, vec![random::schema(random)], numbers)];
+    let late = random.chance(1, 5);
+    for slot in 0..tables {
         if random.chance(9, 10) {
             items.push(item(FLEET_START, vec![], vec![slot, random.pick(&[1, 1, 2, 3, 255])]));
+            if late {
+                let clock = LARGEST_COUNTER - random.below(4);
+                items.push(item(FLEET_SPOIL, vec![], vec![slot, CLOCK, clock]));
+            }
         }
     }
     items
+}
+
+/// A flag near the end for a record of a table of the fleet, with the parity that it has.
+fn high_flag(random: &mut Random, fleet: &Fleet, slot: u64) -> Option<Item> {
+    let table = &fleet.slots[slot as usize];
+    let used = table[2].min(((table.len() - HEADER) / RECORD) as u64);
+    let at = HEADER + RECORD * random.below(used) as usize + FLAG;
+    let flag = table.get(at)?;
+    Some(item(FLEET_SPOIL, vec![], vec![slot, at as u64, 65_534 + flag % 2]))
 }
 
 fn edit_item(slot: u64, edit: Edit) -> Item {
@@ -145,7 +172,7 @@ pub fn walk_item(slot: u64, place: u64) -> Item {
 
 /// The next item of a fleet.
 pub fn next(random: &mut Random, fleet: &Fleet) -> Item {
-    let table = random.below(TABLES as u64);
+    let table = random.below(fleet.tables);
     let copies = TABLES as u64..SLOTS as u64;
     let written: Vec<u64> =
         copies.clone().filter(|slot| fleet.slots[*slot as usize][0] != 0).collect();
@@ -161,7 +188,10 @@ pub fn next(random: &mut Random, fleet: &Fleet) -> Item {
             let position = random.below(fleet.slots[copy as usize].len() as u64);
             item(FLEET_SPOIL, vec![], vec![copy, position, random.pick(&[1, 256, u64::MAX])])
         }
-        7..=9 => item(FLEET_MERGE, vec![], vec![table, random.below(TABLES as u64)]),
+        7 if fleet.tables == 5 => {
+            high_flag(random, fleet, table).unwrap_or(item(FLEET_MARKS, vec![], vec![table]))
+        }
+        7..=9 => item(FLEET_MERGE, vec![], vec![table, random.below(fleet.tables)]),
         10..=14 => item(FLEET_MERGE, vec![], vec![table, copy]),
         15..=16 => item(FLEET_MARKS, vec![], vec![table]),
         17 => walk_item(table, random.below(5)),

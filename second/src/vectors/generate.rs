@@ -161,14 +161,14 @@ fn capacity(words: &[u64]) -> usize {
 }
 
 /// The items so far, with the number of each answer of each call.
-struct Items {
+pub struct Items {
     items: Vec<Item>,
     counts: BTreeMap<(u8, u64), u64>,
     fleet: Fleet,
 }
 
 impl Items {
-    fn push(&mut self, category: u8, call: u8, slices: Vec<Vec<u64>>, words: Vec<u64>) -> u64 {
+    pub fn push(&mut self, category: u8, call: u8, slices: Vec<Vec<u64>>, words: Vec<u64>) -> u64 {
         self.push_item(Item { category, call, slices, words })
     }
 
@@ -1158,7 +1158,7 @@ fn fleets(items: &mut Items, random: &mut Random) {
         counts.iter().all(|((call, _), count)| *call < FLEET_BEGIN || *count >= 20)
     };
     let mut made = 0;
-    while made < 70 || (made < 250 && !enough(&items.counts)) {
+    while made < 300 || (made < 600 && !enough(&items.counts)) {
         fleet(items, random);
         made += 1;
     }
@@ -1204,5 +1204,6 @@ pub fn vectors(seed: u64) -> Vec<Item> {
         more(&mut items, &mut random, call, 2_100);
     }
     fleets(&mut items, &mut random);
+    super::edges::edges(&mut items, &mut random);
     items.items
 }

@@ -7,15 +7,17 @@ use Rattle.vectors.proofs.run_all.Statement.{statement}
 use Rattle.vectors.proofs.run_all.Tie as tie
 
 abbrev Inv-loop : tie.InvT-loop
-Inv-loop s at rows schema₀ own₀ third₀ values₀ counts₀ count c₀ i₀ schema own third values counts c i = (i ≤ count)
+Inv-loop s at rows schema₀ own₀ third₀ values₀ fleet₀ delta₀ counts₀ count c₀ i₀ schema own third values fleet delta counts c i = (i ≤ count)
     × (length schema ≡ length schema₀)
     × (length own ≡ length own₀)
     × (length third ≡ length third₀)
     × (length values ≡ length values₀)
+    × (length fleet ≡ length fleet₀)
+    × (length delta ≡ length delta₀)
     × (length counts ≡ length counts₀)
 
 abbrev μ-loop : tie.MeasureT-loop
-μ-loop s at rows schema₀ own₀ third₀ values₀ counts₀ count c₀ i₀ schema own third values counts c i = count - i
+μ-loop s at rows schema₀ own₀ third₀ values₀ fleet₀ delta₀ counts₀ count c₀ i₀ schema own third values fleet delta counts c i = count - i
 
 number-requires : tie.Need-number-requires Inv-loop μ-loop
 number-requires c κs = tt
@@ -59,6 +61,12 @@ same-length-4 c = search needs
 same-length-5 : tie.Need-same-length-5 Inv-loop μ-loop
 same-length-5 c = search needs
 
+same-length-6 : tie.Need-same-length-6 Inv-loop μ-loop
+same-length-6 c = search needs
+
+same-length-7 : tie.Need-same-length-7 Inv-loop μ-loop
+same-length-7 c = search needs
+
 returns : tie.Need-returns Inv-loop μ-loop
 returns c = tt
 
@@ -82,4 +90,6 @@ run-all-spec =
     same-length-3
     same-length-4
     same-length-5
+    same-length-6
+    same-length-7
     returns)
