@@ -8,7 +8,7 @@ mod generate;
 mod stream;
 
 pub use fleet::{fleet_comparisons, Fleet};
-pub use generate::{random_edit, vectors, Edit};
+pub use generate::{called_table, random_edit, vectors, Edit};
 pub use stream::{expect, read, write};
 
 use crate::label::{delete, join_flags, join_registers, label_of, redo, Register};
