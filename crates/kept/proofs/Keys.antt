@@ -1,7 +1,7 @@
 -- The key comparison field by field, and the values of a table's records as registers.
 -- Assumes nothing.
 use Prim.Native.Nat.{ℕ, suc, _+_, _-_, _/_, _%_, _≤_, _<_}
-use mathlib.Core.Path.{_≡_, refl, sym, _∙_, ap, ap₂}
+use mathlib.Core.Path.{_≡_, refl, sym, _∙_, ap}
 use mathlib.Core.Bool.{Bool, true, false, _&&_, _||_, not}
 use mathlib.Core.List.{List, [], _∷_, map}
 use native.Mathlib.Omega.{arith}
@@ -92,7 +92,7 @@ partAt t p = take (p + 4 + 8 - (p + 4)) (drop (p + 4) t)
 pub part-length : (t : List ℕ) (p i : ℕ) → p ≡ base i → base i + headWords + fields ≤ length t → length (partAt t p) ≡ fields
 part-length t p i e h = simp (length-take, length-drop) (omega arith)
 
-part-values : (t : List ℕ) (p i : ℕ) → p ≡ base i → partAt t p ≡ valuesAt t i
+pub part-values : (t : List ℕ) (p i : ℕ) → p ≡ base i → partAt t p ≡ valuesAt t i
 unfolding valuesAt
 part-values t p i e = rw (add-sub-cancel-left (p + 4) 8, e)
 
@@ -131,7 +131,11 @@ module _ (s t : List ℕ) (b : broken s ≡ false) (w : wellFormed s t ≡ true)
         map-from (λ (g : Reg). g .value) 1 fields (λ j. reg (valueAt t i j) (stampAt t i j))
         ∙ span t (base i + headWords) fields 1 (valueAt t i) values-in (λ k h. ap (λ n. getD t n 0) (omega arith))
 
-    relation-own : relation (recordOf t i) ≡ relationAt t i
+    pub values-length : length (valuesAt t i) ≡ fields
+    unfolding valuesAt
+    values-length = let h = values-in in simp (length-take, length-drop) (omega arith)
+
+    pub relation-own : relation (recordOf t i) ≡ relationAt t i
     relation-own = relation-is s t sound fm i a l
 
     described-is : described (schemaOf s) (recordOf t i) ≡ relationOf s (relationAt t i)
@@ -173,16 +177,6 @@ module _ (s t : List ℕ) (b : broken s ≡ false) (w : wellFormed s t ≡ true)
     records-meet e =
         let r : relation (recordOf t i) ≡ relation (recordOf t j) = relation-own i a l ∙ e ∙ sym (relation-own j p q) in
         rw (eq-eqb (relation (recordOf t i)) (relation (recordOf t j)) r, first-mask i a l, second-mask i a l)
-
-    -- on either key, as the masks are read
-    pub either : (r m n : ℕ) (x y : Bool) → r ≡ relationAt t i → m ≡ maskAt s r 1 → n ≡ maskAt s r 2
-        → x ≡ conflictOn (schemaOf s) m (recordOf t i) (recordOf t j) → y ≡ conflictOn (schemaOf s) n (recordOf t i) (recordOf t j)
-        → relationAt t i ≡ relationAt t j → (x || y) ≡ conflict (schemaOf s) (recordOf t i) (recordOf t j)
-    either r m n x y e f g h k z =
-        let f′ : m ≡ maskAt s (relationAt t i) 1 = f ∙ ap (λ (v : ℕ). maskAt s v 1) e in
-        let g′ : n ≡ maskAt s (relationAt t i) 2 = g ∙ ap (λ (v : ℕ). maskAt s v 2) e in
-        let on : ℕ → Bool = λ v. conflictOn (schemaOf s) v (recordOf t i) (recordOf t j) in
-        ap₂ _||_ (h ∙ ap on f′) (k ∙ ap on g′) ∙ records-meet z
 
 -- a test of a mark and then of a conflict
 pub not-both : (a b x : Bool) → x ≡ a → not x ≡ true → false ≡ (a && b)

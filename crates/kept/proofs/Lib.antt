@@ -1,3 +1,6 @@
 pub mod Keys
+pub mod Digests
 pub mod Listed
+pub mod Bucketed
+pub mod Passing
 pub mod Beaten

@@ -1,14 +1,12 @@
 -- Marks that stand for a list of records of a table.
 -- Assumes nothing.
-use Prim.Native.Nat.{ℕ, _+_, _-_, _≤_, _<_}
+use Prim.Native.Nat.{ℕ, _-_, _≤_}
 use mathlib.Core.Path.{_≡_, refl, sym, _∙_, ap}
 use mathlib.Core.Logic.{_⊎_, inl, inr}
 use mathlib.Core.Bool.{Bool, true, false, cond}
 use mathlib.Core.List.{List}
 use native.Mathlib.Omega.{arith}
-use lib.ListN.{length, getD, set}
-use lib.Seq.{getD-set-same, getD-set-other}
-use Rattle.crdt.proofs.Tests.{test, clash, Tri, low, same, high, tri}
+use Rattle.crdt.proofs.Tests.{test, clash}
 use Rattle.model.specs.Layout.{usedAt}
 use Rattle.model.specs.Schemas.{broken}
 use Rattle.model.specs.Records.{Rec, has, inOrder}
@@ -44,24 +42,5 @@ module _ (s t : List ℕ) (b : broken s ≡ false) (w : wellFormed s t ≡ true)
   pub marked-member : ((x : Rec) → x ∈ l → x ∈ inOrder (decode t .records)) → (i : ℕ) → 1 ≤ i → i ≤ usedAt t → isMarked m i ≡ true → recordOf t i ∈ l
   marked-member part i a g h = held s t b w l part i a g (marked-has i a g h)
 
--- marks written one by one, as far as record i
 abbrev pub mark : Bool → ℕ
 mark x = cond x 1 0
-
-pub record Filled (t : List ℕ) (l : List Rec) (m : List ℕ) (i : ℕ) : Type 0 where
-  pub at : (k : ℕ) → k < i → getD m k 0 ≡ mark (has l (recordOf t (k + 1) .key))
-
-pub filled-none : (t : List ℕ) (l : List Rec) (m : List ℕ) → Filled t l m 0
-filled-none t l m = record { at = λ k h. absurd (omega arith) }
-
-pub filled-more : (t : List ℕ) (l : List Rec) (m : List ℕ) (i x : ℕ) → Filled t l m i → i < length m → x ≡ mark (has l (recordOf t (i + 1) .key)) → Filled t l (set m i x) (i + 1)
-filled-more t l m i x f h e = record { at = λ k g. go k g (tri k i) }
-  where
-    go : (k : ℕ) → k < i + 1 → Tri k i → getD (set m i x) k 0 ≡ mark (has l (recordOf t (k + 1) .key))
-    go k g (low p) = let n : k ≡ i → ⊥ = λ q. omega arith in getD-set-other m i k x 0 n ∙ f .at k p
-    go k g (same p) = rw p (getD-set-same m i x 0 h ∙ e)
-    go k g (high p) = absurd (omega arith)
-
-pub filled-all : (t : List ℕ) (l : List Rec) (m : List ℕ) (n : ℕ) → Filled t l m n → usedAt t ≤ n → Marked t l m
-filled-all t l m n f h =
-    record { at = λ i a g. let q : i - 1 + 1 ≡ i = omega arith in rw q at (f .at (i - 1) (omega arith)) }

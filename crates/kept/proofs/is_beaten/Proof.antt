@@ -1,60 +1,73 @@
 -- `kept::is_beaten` meets its contract.
 -- Assumes nothing.
-use mathlib.Core.Path.{sym, _∙_}
-use Rattle.marking.proofs.Chain.{left, next-less}
-use Rattle.kept.proofs.Beaten.{goes-on, stops-at, Upto, upto-first, upto-on, upto-next, upto-beaten, upto-unbeaten}
+use Prim.Native.Nat.{_-_}
+use mathlib.Core.Path.{refl, sym, _∙_}
+use native.Mathlib.Omega.{arith}
+use Rattle.resolved.proofs.Places.{used-most}
+use Rattle.kept.proofs.Bucketed.{Walk, fall, walk-start, walk-in, walk-next, walk-less, walk-beaten, walk-unbeaten}
 use borrow.Author.Needs.{needs}
 use Rattle.kept.proofs.is_beaten.Statement.{statement}
 use Rattle.kept.proofs.is_beaten.Tie as tie
 
 abbrev Inv-loop : tie.InvT-loop
-Inv-loop schema table stands i r at₀ at = Upto schema table stands i at
+Inv-loop schema table stands mask heads links b i at₀ at = Walk schema table stands mask i at
 
 abbrev μ-loop : tie.MeasureT-loop
-μ-loop schema table stands i r at₀ at = left table at
+μ-loop schema table stands mask heads links b i at₀ at = fall table at
 
-relation-at-requires : tie.Need-relation-at-requires Inv-loop μ-loop
-relation-at-requires c κs = search needs
+mul-at : tie.Need-mul-at Inv-loop μ-loop
+mul-at c = search needs
 
-first-at-requires : tie.Need-first-at-requires Inv-loop μ-loop
-first-at-requires c κs = search needs
+shared-slice-read-at : tie.Need-shared-slice-read-at Inv-loop μ-loop
+shared-slice-read-at c = search needs
+
+cast-at : tie.Need-cast-at Inv-loop μ-loop
+cast-at c = omega (arith, c .shared-slice-known6 .given (c .before .before .before .before .before .before .args .b))
 
 loop-holds : tie.Need-loop-holds Inv-loop μ-loop
-loop-holds c = let p = c .before .before .before .before .before .pre in upto-first _ _ (p .0) (p .1) _ _ (p .3) (p .4) _ _ (c .before .relation-at .ensures) (c .first-at .ensures)
+loop-holds c = let p = c .before .before .before .before .before .before .pre in walk-start _ _ _ (p .0 .schema) (p .0 .formed) _ _ _ _ (p .6) _ _ (p .3) refl
 
-beats-requires : tie.Need-beats-requires Inv-loop μ-loop
-beats-requires c κs =
-    let p = c .before .before .before .before .before .before .before .pre in
-    let g = goes-on _ _ (c .loop-test .taken) in
-    let o = upto-on _ _ (p .0) (p .1) _ _ (p .3) (p .4) _ (c .before .loop .inv) (g .0) .0 in
-    (p .0, p .1, p .3, p .4, o .from-one, o .within, o .related)
+records-conflict-requires : tie.Need-records-conflict-requires Inv-loop μ-loop
+records-conflict-requires c κs =
+    let p = c .before .before .before .before .before .before .before .before .pre in
+    let o = walk-in _ _ _ (p .0 .schema) (p .0 .formed) _ _ _ _ (p .6) _ (c .before .loop .inv) (c .loop-test .taken) .0 in
+    (p .0 .schema, p .0 .formed, o .least, o .within, p .1, p .2)
 
 returns : tie.Need-returns Inv-loop μ-loop
 returns c =
-    let p = c .before .before .before .before .before .before .before .before .before .pre in
-    let g = goes-on _ _ (c .before .before .loop-test .taken) in
-    upto-beaten _ _ (p .0) (p .1) _ _ (p .3) (p .4) _ (c .before .before .before .loop .inv) (g .0) (g .1) (p .2) (sym (c .before .beats .ensures) ∙ c .if1 .taken)
+    let p = c .before .before .before .before .before .before .before .before .before .before .pre in
+    walk-beaten _ _ _ (p .0 .schema) (p .0 .formed) _ _ _ _ (p .6) _ (c .before .before .before .loop .inv) (c .before .before .loop-test .taken) (sym (c .before .records-conflict .ensures) ∙ c .if1 .taken)
 
-next-at-requires : tie.Need-next-at-requires Inv-loop μ-loop
-next-at-requires c κs = search needs
+sub-at : tie.Need-sub-at Inv-loop μ-loop
+sub-at c = omega arith
+
+mul-at-2 : tie.Need-mul-at-2 Inv-loop μ-loop
+mul-at-2 c =
+    let p = c .before .before .before .before .before .before .before .before .before .before .pre in
+    let o = walk-in _ _ _ (p .0 .schema) (p .0 .formed) _ _ _ _ (p .6) _ (c .before .before .before .loop .inv) (c .before .before .loop-test .taken) .0 in
+    omega (arith, o .within, used-most _ _ (p .0))
+
+shared-slice-read-at-2 : tie.Need-shared-slice-read-at-2 Inv-loop μ-loop
+shared-slice-read-at-2 c =
+    let p = c .before .before .before .before .before .before .before .before .before .before .before .pre in
+    let o = walk-in _ _ _ (p .0 .schema) (p .0 .formed) _ _ _ _ (p .6) _ (c .before .before .before .before .loop .inv) (c .before .before .before .loop-test .taken) .0 in
+    let n = o .within in
+    let l = o .least in
+    omega arith
+
+cast-at-2 : tie.Need-cast-at-2 Inv-loop μ-loop
+cast-at-2 c = omega (arith, c .shared-slice-known7 .given (c .before .before .before .before .loop .at - 1))
 
 loop-less : tie.Need-loop-less Inv-loop μ-loop
-loop-less c =
-    let p = c .before .before .before .before .before .before .before .before .before .before .pre in
-    let g = goes-on _ _ (c .before .before .before .loop-test .taken) in
-    let o = upto-on _ _ (p .0) (p .1) _ _ (p .3) (p .4) _ (c .before .before .before .before .loop .inv) (g .0) .0 in
-    rw (c .next-at .ensures) (next-less _ _ (p .0) (p .1) _ _ o)
+loop-less c = let p = c .before .before .before .before .before .before .before .before .before .before .before .pre in walk-less _ _ _ (p .0 .schema) (p .0 .formed) _ _ _ _ (p .6) _ (c .before .before .before .before .loop .inv) (c .before .before .before .loop-test .taken) _ refl
 
 loop-again : tie.Need-loop-again Inv-loop μ-loop
 loop-again c =
-    let p = c .before .before .before .before .before .before .before .before .before .before .pre in
-    let g = goes-on _ _ (c .before .before .before .loop-test .taken) in
-    upto-next _ _ (p .0) (p .1) _ _ (p .3) (p .4) _ (c .before .before .before .before .loop .inv) (g .0) (g .1) _ (c .next-at .ensures) (sym (c .before .before .beats .ensures) ∙ c .before .if1 .left)
+    let p = c .before .before .before .before .before .before .before .before .before .before .before .pre in
+    walk-next _ _ _ (p .0 .schema) (p .0 .formed) _ _ _ _ (p .6) _ (c .before .before .before .before .loop .inv) (c .before .before .before .loop-test .taken) _ refl (sym (c .before .before .records-conflict .ensures) ∙ c .before .if1 .left)
 
 returns-2 : tie.Need-returns-2 Inv-loop μ-loop
-returns-2 c =
-    let p = c .before .before .before .before .before .before .before .pre in
-    upto-unbeaten _ _ (p .0) (p .1) _ _ (p .3) (p .4) _ (c .before .loop .inv) (p .2) (stops-at _ _ (c .loop-test .left))
+returns-2 c = let p = c .before .before .before .before .before .before .before .before .pre in walk-unbeaten _ _ _ (p .0 .schema) (p .0 .formed) _ _ (p .1) (p .2) _ (c .before .loop .inv) (c .loop-test .left)
 
 pub is-beaten-spec : {M : Type 1} → statement M
 is-beaten-spec =
@@ -62,12 +75,16 @@ is-beaten-spec =
     (tie.spec
     Inv-loop
     μ-loop
-    relation-at-requires
-    first-at-requires
+    mul-at
+    shared-slice-read-at
+    cast-at
     loop-holds
-    beats-requires
+    records-conflict-requires
     returns
-    next-at-requires
+    sub-at
+    mul-at-2
+    shared-slice-read-at-2
+    cast-at-2
     loop-less
     loop-again
     returns-2)

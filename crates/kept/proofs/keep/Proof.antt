@@ -1,53 +1,47 @@
 -- `kept::keep` meets its contract.
 -- Assumes nothing.
 use Prim.Native.Nat.{_≤_, _-_}
-use mathlib.Core.Path.{_≡_}
+use mathlib.Core.Path.{_≡_, refl, _∙_}
 use native.Mathlib.Omega.{arith}
-use lib.ListN.{length, length-set}
-use Rattle.model.specs.Schemas.{schemaOf}
-use Rattle.model.specs.Records.{inOrder}
-use Rattle.model.specs.Tables.{decode}
-use Rattle.model.specs.Shown.{standing, kept}
-use Rattle.kept.proofs.Listed.{Filled, filled-none, filled-more, filled-all}
+use lib.ListN.{length}
+use Rattle.model.specs.Layout.{mostRelations}
+use Rattle.kept.proofs.Beaten.{Upto, upto-none, upto-more, upto-all}
 use borrow.Author.Needs.{needs}
 use Rattle.kept.proofs.keep.Statement.{statement}
 use Rattle.kept.proofs.keep.Tie as tie
 
 abbrev Inv-loop : tie.InvT-loop
-Inv-loop schema table stands marks₀ used i₀ marks i = (i ≤ used) × (length marks ≡ length marks₀) × Filled table (kept (schemaOf schema) (standing (schemaOf schema) (inOrder (decode table .records)))) marks i
+Inv-loop schema table stands marks₀ r₀ marks r = (r ≤ mostRelations) × (length marks ≡ length marks₀) × Upto schema table stands r marks
 
 abbrev μ-loop : tie.MeasureT-loop
-μ-loop schema table stands marks₀ used i₀ marks i = used - i
+μ-loop schema table stands marks₀ r₀ marks r = mostRelations - r
 
 used-requires : tie.Need-used-requires Inv-loop μ-loop
 used-requires c κs = search needs
 
+copy-marks-requires : tie.Need-copy-marks-requires Inv-loop μ-loop
+copy-marks-requires c κs = search needs
+
 loop-holds : tie.Need-loop-holds Inv-loop μ-loop
-loop-holds c = (omega arith, search needs, filled-none _ _ _)
+loop-holds c = let p = c .before .before .before .before .before .before .before .before .before .pre in (omega arith, refl, upto-none _ _ (p .0 .schema) (p .0 .formed) _ (p .1) _ _ (c .before .before .before .used .ensures) (c .before .before .copy-marks .ensures))
 
-add-kept-mark : tie.Need-add-kept-mark Inv-loop μ-loop
-add-kept-mark c = search needs
+add-r : tie.Need-add-r Inv-loop μ-loop
+add-r c = search needs
 
-kept-mark-requires : tie.Need-kept-mark-requires Inv-loop μ-loop
-kept-mark-requires c κs = search needs
-
-slice-write-marks : tie.Need-slice-write-marks Inv-loop μ-loop
-slice-write-marks c = search needs
-
-add-i : tie.Need-add-i Inv-loop μ-loop
-add-i c = search needs
+keep-of-requires : tie.Need-keep-of-requires Inv-loop μ-loop
+keep-of-requires c κs = let p = c .before .before .before .before .before .before .before .before .before .before .before .before .pre in (p .0, omega arith, omega arith, omega (arith, p .2, c .before .before .loop .inv .1, c .before .before .before .before .before .copy-marks .kept .1 .0))
 
 loop-less : tie.Need-loop-less Inv-loop μ-loop
 loop-less c = search needs
 
 loop-again : tie.Need-loop-again Inv-loop μ-loop
-loop-again c = (omega arith, simp length-set (c .before .before .loop .inv .1), filled-more _ _ _ _ _ (c .before .before .loop .inv .2) (omega arith) (c .kept-mark .ensures))
+loop-again c = let p = c .before .before .before .before .before .before .before .before .before .before .before .before .before .before .before .pre in (omega arith, c .before .before .keep-of .kept .1 .1 .1 .1 .0 ∙ c .before .before .before .before .before .loop .inv .1, upto-more _ _ (p .0 .schema) (p .0 .formed) _ (p .1) _ _ _ (c .before .before .before .before .before .loop .inv .2) (c .before .before .keep-of .ensures))
 
 same-length : tie.Need-same-length Inv-loop μ-loop
-same-length c = search needs
+same-length c = c .before .loop .inv .1 ∙ c .before .before .before .before .copy-marks .kept .1 .0
 
 returns : tie.Need-returns Inv-loop μ-loop
-returns c = filled-all _ _ _ _ (c .before .loop .inv .2) (omega arith)
+returns c = let p = c .before .before .before .before .before .before .before .before .before .before .before .pre in upto-all _ _ (p .0 .schema) (p .0 .formed) _ (p .1) _ _ (c .before .loop .inv .2) (omega arith)
 
 pub keep-spec : {M : Type 1} → statement M
 keep-spec =
@@ -56,11 +50,10 @@ keep-spec =
     Inv-loop
     μ-loop
     used-requires
+    copy-marks-requires
     loop-holds
-    add-kept-mark
-    kept-mark-requires
-    slice-write-marks
-    add-i
+    add-r
+    keep-of-requires
     loop-less
     loop-again
     same-length

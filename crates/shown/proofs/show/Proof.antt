@@ -8,7 +8,7 @@ use Rattle.shown.proofs.show.Tie as tie
 keep-requires : tie.Need-keep-requires
 keep-requires c κs =
     let p = c .before .before .before .before .before .before .pre in
-    (p .0 .schema, p .0 .formed, p .2, p .4)
+    (p .0, p .2, p .4)
 
 settle-requires : tie.Need-settle-requires
 settle-requires c κs =

@@ -1,0 +1,80 @@
+//! A robot and the office, each with its own table: they edit while the link is down, merge both
+//! ways, and show the same list.
+
+use herd::{table_words, Delta, Error, Label, Marks, Schema, SchemaBuilder, Table};
+
+const GROUP: usize = 1;
+const COW: usize = 2;
+const MILKING: usize = 3;
+
+const FARM: SchemaBuilder = SchemaBuilder::new()
+    .relation() // group: name
+    .plain()
+    .key(&[1])
+    .relation() // cow: tag, group
+    .plain()
+    .abort(GROUP)
+    .key(&[1])
+    .relation() // milking: cow, grams
+    .propagation(COW)
+    .plain();
+
+const RECORDS: usize = 64;
+
+type Words = [u64; table_words(RECORDS)];
+
+/// Prints the shown list; gives its lines.
+fn print_list(name: &str, schema: &Schema, table: &Table<Words>) -> Result<Vec<String>, Error> {
+    let marks = Marks::of(schema, table, [0; RECORDS])?;
+    let lines: Vec<String> = table.list(schema, &marks)?.map(|record| record.to_string()).collect();
+    println!("{name}: shown {}", marks.shown());
+    for line in &lines {
+        println!("{line}");
+    }
+    Ok(lines)
+}
+
+/// The index of a shown record, 0 if there is none.
+fn find(
+    schema: &Schema,
+    table: &Table<Words>,
+    relation: usize,
+    label: Label,
+) -> Result<usize, Error> {
+    let marks = Marks::of(schema, table, [0; RECORDS])?;
+    let mut list = table.list(schema, &marks)?;
+    let found = list.find(|record| record.relation == relation && record.label == label);
+    Ok(found.map_or(0, |record| record.index))
+}
+
+fn main() -> Result<(), Error> {
+    let schema = FARM.build()?;
+    let mut delta = Delta::new();
+    let mut robot = Table::start([0; table_words(RECORDS)], 1)?;
+    let mut office = Table::start([0; table_words(RECORDS)], 2)?;
+
+    // The office sets up the herd, and the robot takes in its table.
+    let group = office.insert(&schema, &mut delta, GROUP, &[12])?;
+    let cow = office.insert(&schema, &mut delta, COW, &[40, group.word()])?;
+    robot.merge(&schema, &office)?;
+
+    // The link is down. Both insert a cow with tag 41; the office renames the group.
+    robot.insert(&schema, &mut delta, MILKING, &[cow.word(), 9_000])?;
+    robot.insert(&schema, &mut delta, COW, &[41, group.word()])?;
+    office.insert(&schema, &mut delta, COW, &[41, Label::NONE])?;
+    let index = find(&schema, &office, GROUP, group)?;
+    office.update(&schema, &mut delta, index, 1, 14)?;
+
+    // The link is back: merge both ways. The older cow 41 keeps the tag.
+    robot.merge(&schema, &office)?;
+    office.merge(&schema, &robot)?;
+    let agree = print_list("robot", &schema, &robot)? == print_list("office", &schema, &office)?;
+
+    // The office deletes cow 40, and sends the delta alone. The cow's milking leaves the list with it.
+    let index = find(&schema, &office, COW, cow)?;
+    office.delete(&schema, &mut delta, index)?;
+    robot.merge(&schema, &delta)?;
+    let again = print_list("robot", &schema, &robot)? == print_list("office", &schema, &office)?;
+    println!("the lists {}", if agree && again { "agree" } else { "differ" });
+    Ok(())
+}

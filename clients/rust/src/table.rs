@@ -1,0 +1,312 @@
+use crate::error::told;
+use crate::list::List;
+use crate::{raw, Error, Label, Marks, Schema, DELTA_WORDS, FIELDS, HEADER_WORDS, RECORD_WORDS};
+
+/// What an edit changed: a table of up to nine records, to be merged into the tables of others.
+///
+/// An edit writes it whole, so one delta can be lent to each edit in turn. A refused edit leaves it
+/// as it was.
+#[derive(Clone, Debug, PartialEq, Eq)]
+pub struct Delta([u64; DELTA_WORDS]);
+
+impl Delta {
+    /// A delta of zeros, which no edit has written yet.
+    pub const fn new() -> Delta {
+        Delta([0; DELTA_WORDS])
+    }
+
+    /// The 196 words.
+    pub const fn words(&self) -> &[u64; DELTA_WORDS] {
+        &self.0
+    }
+}
+
+impl Default for Delta {
+    fn default() -> Delta {
+        Delta::new()
+    }
+}
+
+impl From<[u64; DELTA_WORDS]> for Delta {
+    fn from(words: [u64; DELTA_WORDS]) -> Delta {
+        Delta(words)
+    }
+}
+
+impl AsRef<[u64]> for Delta {
+    fn as_ref(&self) -> &[u64] {
+        &self.0
+    }
+}
+
+/// A table of one replica, in [`table_words`](crate::table_words)`(N)` words of any storage: an
+/// array, a `Vec`, a lent slice.
+///
+/// Every call that takes a schema takes the one under which the table was made; under another it
+/// answers [`Error::OwnNotWellFormed`] where the table does not fit it.
+///
+/// ```
+/// use herd::{table_words, Delta, Error, Marks, SchemaBuilder, Table};
+///
+/// let schema = SchemaBuilder::new().relation().plain().key(&[1]).build()?;
+/// let mut delta = Delta::new();
+///
+/// // Two robots, each with its own replica number.
+/// let mut first = Table::start([0; table_words(8)], 1)?;
+/// let mut second = Table::start(vec![0; table_words(20)], 2)?;
+///
+/// // Each edits its own table; a delta is enough to bring the edit to the other.
+/// let label = first.insert(&schema, &mut delta, 1, &[12])?;
+/// second.merge(&schema, &delta)?;
+/// second.insert(&schema, &mut delta, 1, &[13])?;
+///
+/// // Or the whole table.
+/// first.merge(&schema, &second)?;
+///
+/// let marks = Marks::of(&schema, &first, [0; 8])?;
+/// let names: Vec<u64> = first.list(&schema, &marks)?.map(|record| record.values[0]).collect();
+/// assert_eq!(label.to_string(), "1.1");
+/// assert_eq!(names, [12, 13]);
+/// # Ok::<(), Error>(())
+/// ```
+#[derive(Clone, Debug, PartialEq, Eq)]
+pub struct Table<W> {
+    words: W,
+}
+
+impl<W: AsRef<[u64]>> Table<W> {
+    /// The table that these words hold, as they were stored or received.
+    ///
+    /// Refusals: [`Error::LengthOrIndex`], [`Error::OwnNotWellFormed`].
+    ///
+    /// ```
+    /// use herd::{table_words, Error, SchemaBuilder, Table};
+    ///
+    /// let schema = SchemaBuilder::new().relation().plain().build()?;
+    /// let stored = Table::start(vec![0; table_words(4)], 7)?.into_words();
+    /// assert_eq!(Table::open(&schema, &stored[..])?.replica(), 7);
+    ///
+    /// let damaged = vec![0; table_words(4)];
+    /// assert_eq!(Table::open(&schema, damaged), Err(Error::OwnNotWellFormed));
+    /// # Ok::<(), Error>(())
+    /// ```
+    pub fn open<S: AsRef<[u64]>>(schema: &Schema<S>, words: W) -> Result<Table<W>, Error> {
+        told(raw::table_check(schema.words(), words.as_ref()))?;
+        Ok(Table { words })
+    }
+
+    /// The words, as they are stored or sent.
+    pub fn words(&self) -> &[u64] {
+        self.words.as_ref()
+    }
+
+    /// The storage.
+    pub fn into_words(self) -> W {
+        self.words
+    }
+
+    /// The replica number.
+    pub fn replica(&self) -> u64 {
+        self.word(0)
+    }
+
+    /// The clock: the largest counter that the table has seen.
+    pub fn clock(&self) -> u64 {
+        self.word(1)
+    }
+
+    /// The number of used records, shown or not. The record of an insertion has this index.
+    pub fn used(&self) -> usize {
+        self.word(2) as usize
+    }
+
+    /// The number of records that the table can hold, N.
+    pub fn capacity(&self) -> usize {
+        self.words().len().saturating_sub(HEADER_WORDS) / RECORD_WORDS
+    }
+
+    /// The eight values of a record, a part of the table; those above the relation's fields are 0.
+    ///
+    /// Refusal: [`Error::LengthOrIndex`].
+    pub fn values(&self, index: usize) -> Result<&[u64], Error> {
+        let words = self.words();
+        let mut first = 0;
+        told(raw::values(words, index, &mut first))?;
+        Ok(&words[first as usize..first as usize + FIELDS])
+    }
+
+    /// The shown list from its beginning, over marks made of this table.
+    ///
+    /// Refusals: [`Error::LengthOrIndex`], [`Error::OwnNotWellFormed`].
+    pub fn list<'a, S: AsRef<[u64]>, B: AsRef<[u8]>>(
+        &'a self,
+        schema: &'a Schema<S>,
+        marks: &'a Marks<B>,
+    ) -> Result<List<'a>, Error> {
+        self.list_from(schema, marks, 0)
+    }
+
+    /// The shown list after the record of this index, which is a list's
+    /// [`place`](List::place); 0 is the beginning.
+    ///
+    /// Refusals: [`Error::LengthOrIndex`], [`Error::OwnNotWellFormed`].
+    pub fn list_from<'a, S: AsRef<[u64]>, B: AsRef<[u8]>>(
+        &'a self,
+        schema: &'a Schema<S>,
+        marks: &'a Marks<B>,
+        place: usize,
+    ) -> Result<List<'a>, Error> {
+        List::new(schema.words(), self.words(), marks.bytes(), place)
+    }
+
+    fn word(&self, at: usize) -> u64 {
+        self.words().get(at).copied().unwrap_or(0)
+    }
+}
+
+impl<W: AsRef<[u64]> + AsMut<[u64]>> Table<W> {
+    /// Starts an empty table of this replica, 1 to 255; the words are zeroed.
+    ///
+    /// Refusals: [`Error::LengthOrIndex`], [`Error::RelationOrReplica`].
+    ///
+    /// ```
+    /// use herd::{table_words, Error, Table};
+    ///
+    /// assert_eq!(Table::start([0; table_words(8)], 1)?.capacity(), 8);
+    /// assert_eq!(Table::start([0; table_words(8)], 256), Err(Error::RelationOrReplica));
+    /// assert_eq!(Table::start([0; 17], 1), Err(Error::LengthOrIndex));
+    /// # Ok::<(), Error>(())
+    /// ```
+    pub fn start(mut words: W, replica: u64) -> Result<Table<W>, Error> {
+        told(raw::start(words.as_mut(), replica))?;
+        Ok(Table { words })
+    }
+
+    /// Merges another table, or a delta, into this one. The other one may be words as received: the
+    /// merge refuses what is no table.
+    ///
+    /// Refusals: [`Error::LengthOrIndex`], [`Error::OwnNotWellFormed`],
+    /// [`Error::OtherNotWellFormed`], [`Error::Full`].
+    ///
+    /// ```
+    /// use herd::{table_words, Error, SchemaBuilder, Table};
+    ///
+    /// let schema = SchemaBuilder::new().relation().plain().build()?;
+    /// let mut table = Table::start([0; table_words(4)], 1)?;
+    /// let received = [0xff; table_words(4)];
+    /// assert_eq!(table.merge(&schema, &received), Err(Error::OtherNotWellFormed));
+    /// # Ok::<(), Error>(())
+    /// ```
+    pub fn merge<S: AsRef<[u64]>, O: AsRef<[u64]> + ?Sized>(
+        &mut self,
+        schema: &Schema<S>,
+        other: &O,
+    ) -> Result<(), Error> {
+        told(raw::merge(schema.words(), self.words.as_mut(), other.as_ref()))
+    }
+
+    /// Inserts a record and gives its label; it becomes the last used record. A reference is given
+    /// by the word of its label, or 0 if it is empty.
+    ///
+    /// Refusals: [`Error::LengthOrIndex`], [`Error::OwnNotWellFormed`],
+    /// [`Error::RelationOrReplica`], [`Error::FieldOrValue`], [`Error::TargetNotShown`],
+    /// [`Error::Conflict`], [`Error::Full`], [`Error::ClockAtEnd`], [`Error::FlagAtEnd`].
+    ///
+    /// ```
+    /// use herd::{table_words, Delta, Error, SchemaBuilder, Table};
+    ///
+    /// const GROUP: usize = 1;
+    /// const COW: usize = 2;
+    /// let schema = SchemaBuilder::new()
+    ///     .relation()
+    ///     .plain()
+    ///     .relation()
+    ///     .plain()
+    ///     .abort(GROUP)
+    ///     .key(&[1])
+    ///     .build()?;
+    /// let mut table = Table::start([0; table_words(4)], 1)?;
+    /// let mut delta = Delta::new();
+    ///
+    /// let group = table.insert(&schema, &mut delta, GROUP, &[12])?;
+    /// table.insert(&schema, &mut delta, COW, &[40, group.word()])?;
+    /// let taken = table.insert(&schema, &mut delta, COW, &[40, 0]);
+    /// assert_eq!(taken, Err(Error::Conflict));
+    /// # Ok::<(), Error>(())
+    /// ```
+    pub fn insert<S: AsRef<[u64]>>(
+        &mut self,
+        schema: &Schema<S>,
+        delta: &mut Delta,
+        relation: usize,
+        values: &[u64],
+    ) -> Result<Label, Error> {
+        let mut label = 0;
+        let own = self.words.as_mut();
+        told(raw::insert(schema.words(), own, &mut delta.0, relation, values, &mut label))?;
+        Ok(Label::given(label))
+    }
+
+    /// Updates one field, counted from 1, of a shown record.
+    ///
+    /// Refusals: [`Error::LengthOrIndex`], [`Error::OwnNotWellFormed`], [`Error::NotShown`],
+    /// [`Error::FieldOrValue`], [`Error::TargetNotShown`], [`Error::Conflict`],
+    /// [`Error::ClockAtEnd`], [`Error::FlagAtEnd`].
+    ///
+    /// ```
+    /// use herd::{table_words, Delta, Error, SchemaBuilder, Table};
+    ///
+    /// let schema = SchemaBuilder::new().relation().plain().build()?;
+    /// let mut table = Table::start([0; table_words(4)], 1)?;
+    /// let mut delta = Delta::new();
+    ///
+    /// table.insert(&schema, &mut delta, 1, &[12])?;
+    /// let index = table.used();
+    /// table.update(&schema, &mut delta, index, 1, 14)?;
+    /// assert_eq!(table.values(index)?[0], 14);
+    /// # Ok::<(), Error>(())
+    /// ```
+    pub fn update<S: AsRef<[u64]>>(
+        &mut self,
+        schema: &Schema<S>,
+        delta: &mut Delta,
+        index: usize,
+        field: usize,
+        value: u64,
+    ) -> Result<(), Error> {
+        let own = self.words.as_mut();
+        told(raw::update(schema.words(), own, &mut delta.0, index, field, value))
+    }
+
+    /// Deletes a shown record. It stays in the table, and is no longer shown.
+    ///
+    /// Refusals: [`Error::LengthOrIndex`], [`Error::OwnNotWellFormed`], [`Error::NotShown`],
+    /// [`Error::Referenced`], [`Error::FlagAtEnd`].
+    ///
+    /// ```
+    /// use herd::{table_words, Delta, Error, SchemaBuilder, Table};
+    ///
+    /// let schema = SchemaBuilder::new().relation().plain().build()?;
+    /// let mut table = Table::start([0; table_words(4)], 1)?;
+    /// let mut delta = Delta::new();
+    ///
+    /// table.insert(&schema, &mut delta, 1, &[12])?;
+    /// table.delete(&schema, &mut delta, 1)?;
+    /// assert_eq!(table.delete(&schema, &mut delta, 1), Err(Error::NotShown));
+    /// # Ok::<(), Error>(())
+    /// ```
+    pub fn delete<S: AsRef<[u64]>>(
+        &mut self,
+        schema: &Schema<S>,
+        delta: &mut Delta,
+        index: usize,
+    ) -> Result<(), Error> {
+        told(raw::delete(schema.words(), self.words.as_mut(), &mut delta.0, index))
+    }
+}
+
+impl<W: AsRef<[u64]>> AsRef<[u64]> for Table<W> {
+    fn as_ref(&self) -> &[u64] {
+        self.words()
+    }
+}

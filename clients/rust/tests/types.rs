@@ -1,0 +1,256 @@
+//! The types over the calls: the table of cases, the builder, the list, and random fleets through
+//! the types against the second implementation.
+
+use herd::{
+    table_words, Delta, Error, Kind, Label, Marks, Schema, SchemaBuilder, Table, DELTA_WORDS,
+    SCHEMA_WORDS,
+};
+use second::cases;
+use second::random::{self, Random};
+use second::vectors::{random_edit, Edit};
+
+const GROUP: usize = 1;
+const COW: usize = 2;
+
+const FARM: SchemaBuilder = SchemaBuilder::new()
+    .relation()
+    .plain()
+    .key(&[1])
+    .relation()
+    .plain()
+    .abort(GROUP)
+    .key(&[1])
+    .relation()
+    .propagation(COW)
+    .plain();
+
+fn farm() -> Schema {
+    FARM.build().unwrap()
+}
+
+fn lines<W: AsRef<[u64]>>(schema: &Schema, table: &Table<W>) -> Vec<String> {
+    let marks = Marks::of(schema, table, vec![0; table.capacity()]).unwrap();
+    let list: Vec<String> =
+        table.list(schema, &marks).unwrap().map(|record| record.to_string()).collect();
+    assert_eq!(list.len(), marks.shown());
+    list
+}
+
+fn case(number: u64) -> Table<Vec<u64>> {
+    Table::open(&farm(), cases::table(number).words()).unwrap()
+}
+
+#[test]
+fn the_builder_makes_the_schema_of_the_cases() {
+    assert_eq!(farm().words(), cases::herd());
+    let schema = farm();
+    assert_eq!((schema.relations(), schema.fields(2), schema.fields(4)), (3, 2, 0));
+    assert_eq!(schema.kind(2, 2), Some(Kind::Abort(GROUP)));
+    assert_eq!(schema.kind(3, 1), Some(Kind::Propagation(COW)));
+    assert_eq!((schema.kind(3, 0), schema.kind(3, 3), schema.kind(0, 1)), (None, None, None));
+}
+
+#[test]
+fn the_builder_makes_every_random_schema() {
+    let mut random = Random::new(1);
+    for _ in 0..500 {
+        let words = random::schema(&mut random);
+        let decoded = random::decoded(&words);
+        let mut builder = SchemaBuilder::new();
+        for relation in &decoded.relations {
+            builder = builder.relation();
+            for kind in &relation.kinds {
+                builder = match kind {
+                    second::schema::Kind::Plain => builder.plain(),
+                    second::schema::Kind::Abort(target) => builder.abort(*target as usize),
+                    second::schema::Kind::Propagation(target) => {
+                        builder.propagation(*target as usize)
+                    }
+                };
+            }
+            for key in &relation.keys {
+                let fields: Vec<usize> = key.iter().map(|field| field + 1).collect();
+                builder = builder.key(&fields);
+            }
+        }
+        let schema = builder.build().unwrap();
+        assert_eq!(random::decoded(schema.words()), decoded);
+    }
+}
+
+#[test]
+fn the_builder_refuses_what_has_no_place() {
+    let one = SchemaBuilder::new().relation().plain();
+    let mut wide = SchemaBuilder::new().relation();
+    for _ in 0..8 {
+        wide = wide.plain();
+    }
+    assert!(wide.key(&[1, 2, 3, 4]).key(&[5, 6, 7, 8]).build().is_ok());
+    let mut many = SchemaBuilder::new();
+    for _ in 0..8 {
+        many = many.relation().plain();
+    }
+    assert!(many.build().is_ok());
+    let broken = [
+        SchemaBuilder::new(),
+        SchemaBuilder::new().plain().relation().plain(),
+        SchemaBuilder::new().key(&[1]).relation().plain(),
+        SchemaBuilder::new().relation(),
+        one.abort(2),
+        one.abort(0),
+        one.propagation(usize::MAX),
+        one.key(&[]),
+        one.key(&[0]),
+        one.key(&[2]),
+        one.key(&[9]),
+        one.key(&[usize::MAX]),
+        one.key(&[1]).key(&[1]).key(&[1]),
+        wide.plain(),
+        wide.key(&[1, 2, 3, 4, 5]),
+        many.relation().plain(),
+    ];
+    for builder in broken {
+        assert_eq!(builder.build(), Err(Error::SchemaBroken), "{builder:?}");
+    }
+}
+
+#[test]
+fn cases_c5_to_c10_show_what_the_page_tells() {
+    let schema = farm();
+    assert_eq!(lines(&schema, &case(5)), ["1 1.1 12", "2 2.1 40 1.1"]);
+    assert_eq!(lines(&schema, &case(6)), ["1 1.1 12"]);
+    assert_eq!(lines(&schema, &case(7)), ["1 1.1 12", "2 2.1 40 1.1"]);
+    assert_eq!(lines(&schema, &case(8)), ["1 1.1 12", "2 2.1 40 1.1"]);
+    assert!(lines(&schema, &case(9)).is_empty());
+    assert_eq!(lines(&schema, &case(10)), ["2 2.1 40 -"]);
+}
+
+#[test]
+fn cases_c11_and_c12_delete_a_cow() {
+    let schema = farm();
+    let mut delta = Delta::new();
+    let mut table = case(11);
+    table.delete(&schema, &mut delta, 2).unwrap();
+    assert!(lines(&schema, &table).is_empty());
+    let mut table = case(12);
+    table.delete(&schema, &mut delta, 2).unwrap();
+    assert_eq!(lines(&schema, &table), ["1 1.1 12", "2 2.2 41 1.1"]);
+}
+
+#[test]
+fn words_that_are_no_table_are_refused() {
+    let schema = farm();
+    let mut table = case(5);
+    let before = table.clone();
+    assert_eq!(table.merge(&schema, &[0; 3]), Err(Error::LengthOrIndex));
+    assert_eq!(table.merge(&schema, &Delta::new()), Err(Error::OtherNotWellFormed));
+    assert_eq!(
+        table.merge(&schema, &Delta::from([1; DELTA_WORDS])),
+        Err(Error::OtherNotWellFormed)
+    );
+    assert_eq!(table, before);
+    assert_eq!(Table::open(&schema, [0; 3]), Err(Error::LengthOrIndex));
+    assert_eq!(Table::start(vec![0; table_words(4097)], 1), Err(Error::LengthOrIndex));
+    assert_eq!(Schema::new([1; SCHEMA_WORDS]), Err(Error::SchemaBroken));
+    assert_eq!(table.values(0), Err(Error::LengthOrIndex));
+    assert_eq!(table.values(3), Err(Error::LengthOrIndex));
+    assert_eq!(Marks::of(&schema, &table, [0; 3]), Err(Error::LengthOrIndex));
+}
+
+#[test]
+fn a_list_of_other_marks_or_another_schema_is_refused() {
+    let (schema, table) = (farm(), case(5));
+    let marks = Marks::of(&schema, &table, [0; 2]).unwrap();
+    let empty = Table::start([0; table_words(0)], 1).unwrap();
+    assert_eq!(empty.list(&schema, &marks).err(), Some(Error::LengthOrIndex));
+    assert_eq!(table.list_from(&schema, &marks, 3).err(), Some(Error::LengthOrIndex));
+    let other = SchemaBuilder::new().relation().plain().build().unwrap();
+    assert_eq!(table.list(&other, &marks).err(), Some(Error::OwnNotWellFormed));
+    let mut list = table.list(&schema, &marks).unwrap();
+    assert_eq!(list.by_ref().count(), 2);
+    assert_eq!((list.place(), list.next()), (2, None));
+}
+
+#[test]
+fn labels_keep_their_limits() {
+    let most = (1 << 40) - 1;
+    for (counter, replica) in [(0, 1), (1, 0), (most + 1, 1), (1, 256), (u64::MAX, 1)] {
+        assert_eq!(Label::of(counter, replica), None);
+    }
+    let label = Label::of(most, 255).unwrap();
+    assert_eq!(label.word(), (1 << 48) - 1);
+    assert_eq!(Label::from_word(1 << 48), None);
+    assert!(Label::of(1, 255) < Label::of(2, 1));
+}
+
+#[test]
+fn every_number_has_its_error() {
+    for number in 1..=13 {
+        let error = Error::from_number(number).unwrap();
+        assert_eq!(error.number(), number);
+        assert!(!error.to_string().is_empty());
+    }
+    assert_eq!((Error::from_number(0), Error::from_number(14)), (None, None));
+}
+
+/// One random edit through the types, with what the second implementation does on the same words.
+fn edit(
+    random: &mut Random,
+    schema: &Schema<Vec<u64>>,
+    own: &mut Table<&mut [u64]>,
+    delta: &mut Delta,
+) {
+    let edit = random_edit(random, schema.words(), own.words());
+    let (mut words, mut changes) = (own.words().to_vec(), *delta.words());
+    let expected = edit.run(schema.words(), &mut words, &mut changes);
+    let told = match edit {
+        Edit::Insertion { relation, values } => {
+            own.insert(schema, delta, relation as usize, &values).map(Label::word)
+        }
+        Edit::Update { index, field, value } => {
+            own.update(schema, delta, index as usize, field as usize, value).map(|()| 0)
+        }
+        Edit::Deletion { index } => own.delete(schema, delta, index as usize).map(|()| 0),
+    };
+    assert_eq!((told.map_or_else(Error::number, |_| 0), told.unwrap_or(0)), expected);
+    assert_eq!(own.words(), words);
+    assert_eq!(delta.words(), &changes);
+}
+
+fn listed<W: AsRef<[u64]>>(schema: &Schema<Vec<u64>>, table: &Table<W>) -> String {
+    let marks = Marks::of(schema, table, vec![9; table.capacity()]).unwrap();
+    let mut text = format!("shown {}\n", marks.shown());
+    for record in table.list(schema, &marks).unwrap() {
+        text.push_str(&format!("{record}\n"));
+    }
+    text
+}
+
+#[test]
+fn fleets_through_the_types() {
+    let mut random = Random::new(2);
+    let mut delta = Delta::new();
+    let (mut first, mut second) = (vec![0; table_words(24)], vec![0; table_words(24)]);
+    for _ in 0..60 {
+        let schema = Schema::new(random::schema(&mut random)).unwrap();
+        let mut robot = Table::start(&mut first[..], 1).unwrap();
+        let mut office = Table::start(&mut second[..], 2).unwrap();
+        for _ in 0..20 {
+            edit(&mut random, &schema, &mut robot, &mut delta);
+            edit(&mut random, &schema, &mut office, &mut delta);
+        }
+        let mut words = robot.words().to_vec();
+        let answer = second::number(&second::merge(schema.words(), &mut words, office.words()));
+        let told = robot.merge(&schema, &office);
+        assert_eq!(told.map_or_else(Error::number, |()| 0), answer);
+        assert_eq!(robot.words(), words);
+        let merged = told.is_ok() && office.merge(&schema, &robot).is_ok();
+        for table in [&robot, &office] {
+            let input = [cases::bytes_of(schema.words()), cases::bytes_of(table.words())].concat();
+            assert_eq!(listed(&schema, table), second::list::list(&input));
+        }
+        if merged {
+            assert_eq!(listed(&schema, &robot), listed(&schema, &office));
+        }
+    }
+}
