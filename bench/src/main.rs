@@ -221,16 +221,42 @@ fn values(subjects: &[Subject]) -> Line {
     })
 }
 
-/// The index of the last shown record of a relation.
-fn last_shown(x: &Subject, size: usize, relation: u64) -> usize {
-    let mut bytes = vec![0u8; size];
-    library::marks(&x.schema, &x.own, &mut bytes);
-    let of = |at: &usize| x.own[16 + 20 * (at - 1) + 1] == relation && bytes[at - 1] == 1;
-    (1..=x.own[2] as usize).rev().find(of).unwrap_or(1)
+/// What is edited in a table: an insertion's relation and values, and a field with its new value.
+struct Change {
+    relation: usize,
+    values: Vec<u64>,
+    field: usize,
+    value: u64,
 }
 
-/// The edits of a barn table; the plain figure is the time of marks and of the merge of a delta, by the library.
-fn edits(subjects: &[Subject]) -> Vec<Line> {
+/// The index of the last shown record of a relation; 0 where there is none.
+fn last_shown(x: &Subject, size: usize, relation: usize) -> usize {
+    let mut bytes = vec![0u8; size];
+    library::marks(&x.schema, &x.own, &mut bytes);
+    let of = |at: &usize| x.own[16 + 20 * (at - 1) + 1] == relation as u64 && bytes[at - 1] == 1;
+    (1..=x.own[2] as usize).rev().find(of).unwrap_or(0)
+}
+
+/// A milking of a barn, and its grams.
+fn milking(x: &Subject, size: usize) -> Change {
+    let label = |relation| x.own[16 + 20 * (last_shown(x, size, relation) - 1) + 2];
+    Change { relation: 4, values: vec![label(2), label(3), 9000, 385, 100], field: 3, value: 9100 }
+}
+
+/// A record with keys of its own, and its first key.
+fn keyed(_: &Subject, size: usize) -> Change {
+    let free = 3 * size as u64 + 1;
+    Change { relation: 1, values: vec![free, 7 * free, 5], field: 1, value: free }
+}
+
+/// A record with an empty reference, beside a chain of which no record is shown.
+fn beside(_: &Subject, _: usize) -> Change {
+    Change { relation: 1, values: vec![0, 5], field: 2, value: 6 }
+}
+
+/// The edits of a table; the plain figure is the time of marks and of the merge of a delta, by the library. Where no record is
+/// shown there is only the insertion.
+fn edits(subjects: &[Subject], change: fn(&Subject, usize) -> Change) -> Vec<Line> {
     const PLAIN: &str = "marks and merge of the delta";
     let sum = |x: &Subject, size: usize, delta: &[u64]| {
         timed(
@@ -248,54 +274,63 @@ fn edits(subjects: &[Subject]) -> Vec<Line> {
         )
     };
     let own = |x: &Subject| (x.own.clone(), vec![0u64; DELTA]);
-    let insertion = line("insertion", PLAIN, subjects, |x, size| {
-        let cow = x.own[16 + 20 * (last_shown(x, size, 2) - 1) + 2];
-        let robot = x.own[16 + 20 * (last_shown(x, size, 3) - 1) + 2];
-        let fields = [cow, robot, 9000, 385, 100];
+    let mut lines = vec![line("insertion", PLAIN, subjects, |x, size| {
+        let c = change(x, size);
         let (mut t, mut d) = own(x);
-        assert_eq!(library::insert(&x.schema, &mut t, &mut d, 4, &fields).0, 0);
+        assert_eq!(library::insert(&x.schema, &mut t, &mut d, c.relation, &c.values).0, 0);
         (
             timed(
                 times(size).min(40),
                 || own(x),
                 |(t, d)| {
-                    black_box(library::insert(&x.schema, t, d, 4, &fields));
+                    black_box(library::insert(&x.schema, t, d, c.relation, &c.values));
                 },
             ),
             timed(
                 3,
                 || own(x),
                 |(t, d)| {
-                    assert!(second::insertion(&x.schema, t, d, 4, &fields).is_ok());
+                    assert!(
+                        second::insertion(&x.schema, t, d, c.relation as u64, &c.values).is_ok()
+                    );
                 },
             ),
             sum(x, size, &d),
         )
-    });
-    let update = line("update", PLAIN, subjects, |x, size| {
-        let index = last_shown(x, size, 4);
+    })];
+    if subjects
+        .iter()
+        .zip(SIZES)
+        .any(|(x, size)| last_shown(x, size, change(x, size).relation) == 0)
+    {
+        return lines;
+    }
+    lines.push(line("update", PLAIN, subjects, |x, size| {
+        let c = change(x, size);
+        let index = last_shown(x, size, c.relation);
         let (mut t, mut d) = own(x);
-        assert_eq!(library::update(&x.schema, &mut t, &mut d, index, 3, 9100), 0);
+        assert_eq!(library::update(&x.schema, &mut t, &mut d, index, c.field, c.value), 0);
         (
             timed(
                 times(size).min(40),
                 || own(x),
                 |(t, d)| {
-                    black_box(library::update(&x.schema, t, d, index, 3, 9100));
+                    black_box(library::update(&x.schema, t, d, index, c.field, c.value));
                 },
             ),
             timed(
                 3,
                 || own(x),
                 |(t, d)| {
-                    assert!(second::update(&x.schema, t, d, index as u64, 3, 9100).is_ok());
+                    let (index, field) = (index as u64, c.field as u64);
+                    assert!(second::update(&x.schema, t, d, index, field, c.value).is_ok());
                 },
             ),
             sum(x, size, &d),
         )
-    });
-    let deletion = line("deletion", PLAIN, subjects, |x, size| {
-        let index = last_shown(x, size, 4);
+    }));
+    lines.push(line("deletion", PLAIN, subjects, |x, size| {
+        let index = last_shown(x, size, change(x, size).relation);
         let (mut t, mut d) = own(x);
         assert_eq!(library::delete(&x.schema, &mut t, &mut d, index), 0);
         (
@@ -315,8 +350,8 @@ fn edits(subjects: &[Subject]) -> Vec<Line> {
             ),
             sum(x, size, &d),
         )
-    });
-    vec![insertion, update, deletion]
+    }));
+    lines
 }
 
 fn time(nanoseconds: f64) -> String {
@@ -355,16 +390,21 @@ fn main() {
         schemas(&barns),
         checks(&barns),
         checks(&keys),
+        checks(&chains),
         starts(&barns),
         merges(&barns),
         merges(&keys),
+        merges(&chains),
         marks(&barns),
         marks(&keys),
         marks(&chains),
         walks(&barns),
+        walks(&keys),
         values(&barns),
     ];
-    lines.extend(edits(&barns));
+    lines.extend(edits(&barns, milking));
+    lines.extend(edits(&keys, keyed));
+    lines.extend(edits(&chains, beside));
     print(&lines);
     if let Some(path) = std::env::args().nth(1) {
         std::fs::write(path, picture::svg(&lines, &SIZES)).expect("the picture is written");

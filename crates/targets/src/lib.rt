@@ -145,9 +145,11 @@ fn field_refers(schema: &[u64], table: &[u64], refs: &[u16], i: usize, j: usize,
     requires { ⌜ (1 ≤ i) × (i ≤ mostRecords) × (1 ≤ j) × (j ≤ fields) × (fields * mostRecords ≡ length (now refs)) ⌝ }
     ensures { λ x. ⌜ x ≡ meets isReference (now (schema .entry)) (now (table .entry)) (now (refs .entry)) i p j ⌝ }
 {
-    let kind = layout::kind_at(schema, layout::relation_at(table, i), j);
     let at = layout::FIELDS * (i - 1) + (j - 1);
-    (layout::ABORT <= kind) & (refs[at] as usize == p)
+    if refs[at] as usize != p {
+        return false;
+    }
+    layout::ABORT <= layout::kind_at(schema, layout::relation_at(table, i), j)
 }
 
 // Whether field `j` of record `i` is a reference by abort that leads to record `p`.
@@ -155,9 +157,12 @@ fn field_aborts(schema: &[u64], table: &[u64], refs: &[u16], i: usize, j: usize,
     requires { ⌜ (1 ≤ i) × (i ≤ mostRecords) × (1 ≤ j) × (j ≤ fields) × (fields * mostRecords ≡ length (now refs)) ⌝ }
     ensures { λ x. ⌜ x ≡ meets isAbort (now (schema .entry)) (now (table .entry)) (now (refs .entry)) i p j ⌝ }
 {
-    let kind = layout::kind_at(schema, layout::relation_at(table, i), j);
     let at = layout::FIELDS * (i - 1) + (j - 1);
-    (layout::ABORT <= kind) & (kind < layout::PROPAGATION) & (refs[at] as usize == p)
+    if refs[at] as usize != p {
+        return false;
+    }
+    let kind = layout::kind_at(schema, layout::relation_at(table, i), j);
+    (layout::ABORT <= kind) & (kind < layout::PROPAGATION)
 }
 
 // Whether record `i` has a reference that leads to record `p`.

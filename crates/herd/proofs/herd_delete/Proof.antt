@@ -4,28 +4,19 @@ use Rattle.herd.proofs.Told.{told-number}
 use borrow.Author.Needs.{needs}
 use Rattle.herd.proofs.herd_delete.Statement.{statement}
 use Rattle.herd.proofs.herd_delete.Tie as tie
-use Rattle.herd.proofs.herd_delete.Reads as reads
-use Rattle.herd.proofs.herd_delete.Lts as lts
-use Rattle.answers.proofs.DeletionAnswer.number.Reads as number-reads
-use Rattle.edits.proofs.deletion.Reads as deletion-reads
 
--- src/lib.rt:78:5
 deletion-requires : tie.Need-deletion-requires
 deletion-requires c κs = search needs
 
--- src/lib.rt:78:5
 number-requires : tie.Need-number-requires
 number-requires c κs = search needs
 
--- src/lib.rt:72:1
 same-length : tie.Need-same-length
 same-length c = search needs
 
--- src/lib.rt:72:1
 same-length-2 : tie.Need-same-length-2
 same-length-2 c = search needs
 
--- src/lib.rt:72:1
 returns : tie.Need-returns
 returns c = (told-number _ _ _ _ (c .before .before .before .before .before .deletion .ensures .0) (c .number .ensures), c .before .before .before .before .before .deletion .ensures .1)
 

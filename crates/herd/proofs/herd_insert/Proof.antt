@@ -4,33 +4,22 @@ use Rattle.herd.proofs.Told.{told-number, told-value}
 use borrow.Author.Needs.{needs}
 use Rattle.herd.proofs.herd_insert.Statement.{statement}
 use Rattle.herd.proofs.herd_insert.Tie as tie
-use Rattle.herd.proofs.herd_insert.Reads as reads
-use Rattle.herd.proofs.herd_insert.Lts as lts
-use Rattle.answers.proofs.InsertionAnswer.label.Reads as label-reads
-use Rattle.answers.proofs.InsertionAnswer.number.Reads as number-reads
-use Rattle.edits.proofs.insertion.Reads as insertion-reads
 
--- src/lib.rt:51:9
 insertion-requires : tie.Need-insertion-requires
 insertion-requires c κs = search needs
 
--- src/lib.rt:52:14
 label-requires : tie.Need-label-requires
 label-requires c κs = search needs
 
--- src/lib.rt:53:5
 number-requires : tie.Need-number-requires
 number-requires c κs = search needs
 
--- src/lib.rt:37:1
 same-length : tie.Need-same-length
 same-length c = search needs
 
--- src/lib.rt:37:1
 same-length-2 : tie.Need-same-length-2
 same-length-2 c = search needs
 
--- src/lib.rt:37:1
 returns : tie.Need-returns
 returns c = (told-number _ _ _ _ (c .before .before .before .before .before .before .insertion .ensures .0) (c .number .ensures), (told-value _ _ _ _ (c .before .before .before .before .before .before .insertion .ensures .0) (c .before .label .ensures), c .before .before .before .before .before .before .insertion .ensures .1))
 

@@ -4,20 +4,13 @@ use Rattle.herd.proofs.Told.{told-number}
 use borrow.Author.Needs.{needs}
 use Rattle.herd.proofs.herd_schema_check.Statement.{statement}
 use Rattle.herd.proofs.herd_schema_check.Tie as tie
-use Rattle.herd.proofs.herd_schema_check.Reads as reads
-use Rattle.herd.proofs.herd_schema_check.Lts as lts
-use Rattle.answers.proofs.SchemaAnswer.number.Reads as number-reads
-use Rattle.schema.proofs.schema_check.Reads as schema-check-reads
 
--- src/lib.rt:10:5
 schema-check-requires : tie.Need-schema-check-requires
 schema-check-requires c κs = search needs
 
--- src/lib.rt:10:5
 number-requires : tie.Need-number-requires
 number-requires c κs = search needs
 
--- src/lib.rt:6:1
 returns : tie.Need-returns
 returns c = told-number _ _ _ _ (c .before .schema-check .ensures) (c .number .ensures)
 

@@ -4,28 +4,19 @@ use Rattle.herd.proofs.Told.{told-number}
 use borrow.Author.Needs.{needs}
 use Rattle.herd.proofs.herd_update.Statement.{statement}
 use Rattle.herd.proofs.herd_update.Tie as tie
-use Rattle.herd.proofs.herd_update.Reads as reads
-use Rattle.herd.proofs.herd_update.Lts as lts
-use Rattle.answers.proofs.UpdateAnswer.number.Reads as number-reads
-use Rattle.edits.proofs.update.Reads as update-reads
 
--- src/lib.rt:69:5
 update-requires : tie.Need-update-requires
 update-requires c κs = search needs
 
--- src/lib.rt:69:5
 number-requires : tie.Need-number-requires
 number-requires c κs = search needs
 
--- src/lib.rt:56:1
 same-length : tie.Need-same-length
 same-length c = search needs
 
--- src/lib.rt:56:1
 same-length-2 : tie.Need-same-length-2
 same-length-2 c = search needs
 
--- src/lib.rt:56:1
 returns : tie.Need-returns
 returns c = (told-number _ _ _ _ (c .before .before .before .before .before .update .ensures .0) (c .number .ensures), c .before .before .before .before .before .update .ensures .1)
 
