@@ -3,18 +3,18 @@
 -- Assumes nothing.
 use Prim.Native.Nat.{ℕ, zero, suc, _+_, _≤_, _<_}
 use mathlib.Core.Path.{_≡_, refl, ap, sym, _∙_}
-use mathlib.Core.Bool.{Bool, true, false, _&&_, _||_}
+use mathlib.Core.Bool.{Bool, true, false, _&&_, _||_, and-false}
 use mathlib.Core.List.{List, [], _∷_}
 use mathlib.Core.Logic.{_⊎_, inl, inr, _≢_}
 use native.Mathlib.Omega.{arith}
 use lib.Dec.{leb, ltb, eqb}
 use lib.ListN.{length}
 use borrow.Author.Tests.{ltb-true, leb-true, leb-false, le-leb, lt-leb, eqb-true, eqb-false, eq-eqb, ne-eqb}
-use Rattle.crdt.proofs.Tests.{clash, or-cases, and-left, and-right}
+use Rattle.crdt.proofs.Tests.{test, clash, or-cases, and-left, and-right, and-both}
 use Rattle.model.specs.Layout.{mostRelations, usedAt, firstAt, nextAt, relationAt, labelAt}
-use Rattle.model.specs.Lists.{each, any, some-of}
+use Rattle.model.specs.Lists.{each, any, some-of, all-of}
 use Rattle.model.specs.WellFormed.{chainFrom, chainOf, chainStep, rises, chainsRise, onChain}
-use Rattle.layout.proofs.Each.{each-at, each-fail}
+use Rattle.layout.proofs.Each.{each-at, each-all, each-both, each-fail}
 
 bit : Bool → ℕ
 bit true = 1
@@ -85,7 +85,7 @@ sum-occ (i ∷ l) n w =
 
 -- a rising list, taken apart
 module _ (t : List ℕ) (r : ℕ) where
-  step-says : (low i : ℕ) → chainStep t r low i ≡ true → (i ≤ usedAt t) × (relationAt t i ≡ r) × (low < labelAt t i)
+  pub step-says : (low i : ℕ) → chainStep t r low i ≡ true → (i ≤ usedAt t) × (relationAt t i ≡ r) × (low < labelAt t i)
   unfolding chainStep
   step-says low i e =
       let a = and-left (leb i (usedAt t) && eqb (relationAt t i) r && ltb low (labelAt t i)) (leb (nextAt t i) (usedAt t)) e in
@@ -216,16 +216,69 @@ module _ (t : List ℕ) (up : chainsRise t ≡ true) where
       ∙ sum-ext (usedAt t) (λ k. sumTo mostRelations (λ r. occ k (chainOf t r))) (λ k. bit (onChain t k)) (λ k a b. on-one k))
       ∙ sum-all (usedAt t) (onChain t)
 
--- the ways out of chains, and a turn
-pub chains-broken : (t : List ℕ) (r : ℕ) → 1 ≤ r → r ≤ mostRelations → rises t r 0 (chainOf t r) ≡ false → false ≡ (chainsRise t && each (usedAt t) (onChain t))
+risen : (t : List ℕ) → each mostRelations (λ q. rises t q 0 (chainOf t q)) ≡ true → chainsRise t ≡ true
 unfolding chainsRise
-chains-broken t r h g e = ap (λ (b : Bool). b && each (usedAt t) (onChain t)) (each-fail mostRelations (λ q. rises t q 0 (chainOf t q)) r h g e)
+risen t e = e
+
+-- the members of a list that all pass
+all-member : (p : ℕ → Bool) (l : List ℕ) (k : ℕ) → all-of p l ≡ true → elem k l ≡ true → p k ≡ true
+unfolding all-of elem some-of
+all-member p [] k e h = clash h refl
+all-member p (i ∷ l) k e h = go (or-cases (eqb k i) (some-of (λ j. eqb k j) l) h) (all-member p l k (and-right (p i) (all-of p l) e))
+  where
+    go : (eqb k i ≡ true) ⊎ (some-of (λ j. eqb k j) l ≡ true) → (some-of (λ j. eqb k j) l ≡ true → p k ≡ true) → p k ≡ true
+    go (inl q) f = ap p (eqb-true k i q) ∙ and-left (p i) (all-of p l) e
+    go (inr q) f = f q
+
+-- a list of numbers from 1 to n, where each of these passes
+all-within : (p : ℕ → Bool) (n : ℕ) (l : List ℕ) → each n p ≡ true → Within n l → all-of p l ≡ true
+unfolding all-of
+all-within p n [] e w = refl
+all-within p n (i ∷ l) e w = and-both (p i) (all-of p l) (each-at n p i e (w .0) (w .1)) (all-within p n l e (w .2))
+
+-- a test of records, asked of those that the chains hold
+module _ (t : List ℕ) (p : ℕ → Bool) where
+  rising-all : (r : ℕ) → each (usedAt t) p ≡ true → rises t r 0 (chainOf t r) ≡ true → all-of p (chainOf t r) ≡ true
+  unfolding chainOf
+  rising-all r e h =
+      all-within p (usedAt t) (chainFrom (usedAt t + 1) t (firstAt t r)) e (rises-within t r (usedAt t + 1) 0 (firstAt t r) h)
+
+  on-passes : (k : ℕ) → each mostRelations (λ q. all-of p (chainOf t q)) ≡ true → onChain t k ≡ true → p k ≡ true
+  unfolding onChain elem
+  on-passes k e h =
+      let m = any-at mostRelations (λ r. elem k (chainOf t r)) h in
+      all-member p (chainOf t (m .0)) k (each-at mostRelations (λ q. all-of p (chainOf t q)) (m .0) e (m .1) (m .2)) (m .3)
+
+  all-pass : each mostRelations (λ q. all-of p (chainOf t q)) ≡ true → each (usedAt t) (onChain t) ≡ true → each (usedAt t) p ≡ true
+  all-pass e h = each-all (usedAt t) p (λ k a b. on-passes k e (each-at (usedAt t) (onChain t) k h a b))
+
+  -- the ways out of chains, and a turn
+  pub chains-broken : (r : ℕ) → 1 ≤ r → r ≤ mostRelations → (rises t r 0 (chainOf t r) && all-of p (chainOf t r)) ≡ false
+      → false ≡ (each (usedAt t) p && chainsRise t && each (usedAt t) (onChain t))
+  unfolding chainsRise
+  chains-broken r h g e = go (test (each (usedAt t) p)) (test (rises t r 0 (chainOf t r)))
+    where
+      go : (each (usedAt t) p ≡ true) ⊎ (each (usedAt t) p ≡ false) → (rises t r 0 (chainOf t r) ≡ true) ⊎ (rises t r 0 (chainOf t r) ≡ false)
+          → false ≡ (each (usedAt t) p && each mostRelations (λ q. rises t q 0 (chainOf t q)) && each (usedAt t) (onChain t))
+      go (inl x) (inl y) = clash (and-both (rises t r 0 (chainOf t r)) (all-of p (chainOf t r)) y (rising-all r x y)) e
+      go (inl x) (inr y) = rw (x, ← each-fail mostRelations (λ q. rises t q 0 (chainOf t q)) r h g y)
+      go (inr x) y = rw x
+
+  pub chains-counted : (count used : ℕ) → each mostRelations (λ q. rises t q 0 (chainOf t q) && all-of p (chainOf t q)) ≡ true
+      → count ≡ sumTo mostRelations (λ q. length (chainOf t q)) → used ≡ usedAt t
+      → eqb count used ≡ (each (usedAt t) p && chainsRise t && each (usedAt t) (onChain t))
+  chains-counted count used e f g = rw (f, g, up) (counted t up ∙ go (test (each (usedAt t) (onChain t))))
+    where
+      both : (each mostRelations (λ q. rises t q 0 (chainOf t q)) && each mostRelations (λ q. all-of p (chainOf t q))) ≡ true
+      both = sym (each-both mostRelations (λ q. rises t q 0 (chainOf t q)) (λ q. all-of p (chainOf t q))) ∙ e
+
+      up : chainsRise t ≡ true
+      up = risen t (and-left (each mostRelations (λ q. rises t q 0 (chainOf t q))) (each mostRelations (λ q. all-of p (chainOf t q))) both)
+
+      go : (each (usedAt t) (onChain t) ≡ true) ⊎ (each (usedAt t) (onChain t) ≡ false) → each (usedAt t) (onChain t) ≡ (each (usedAt t) p && true && each (usedAt t) (onChain t))
+      go (inl x) = rw (x, all-pass (and-right (each mostRelations (λ q. rises t q 0 (chainOf t q))) (each mostRelations (λ q. all-of p (chainOf t q))) both) x)
+      go (inr x) = rw (x, and-false)
 
 pub chains-more : (t : List ℕ) (r count n : ℕ) → n ≡ length (chainOf t (r + 1)) → count ≡ sumTo r (λ q. length (chainOf t q))
     → count + n ≡ sumTo (r + 1) (λ q. length (chainOf t q))
 chains-more t r count n e f = rw (sum-more r (λ q. length (chainOf t q)), e, f)
-
-pub chains-counted : (t : List ℕ) (count used : ℕ) → each mostRelations (λ q. rises t q 0 (chainOf t q)) ≡ true → count ≡ sumTo mostRelations (λ q. length (chainOf t q))
-    → used ≡ usedAt t → eqb count used ≡ (chainsRise t && each (usedAt t) (onChain t))
-unfolding chainsRise
-chains-counted t count used e f g = rw (f, g, e) (counted t e)

@@ -102,19 +102,17 @@ module _ (s t : List ℕ) where
   unfolding wellFormed
   formed-header x e f = rw (← e, f)
 
-  pub formed-records : (x : Bool) → x ≡ each (usedAt t) (λ i. recordRules s t i && countersRule s t i) → x ≡ false → false ≡ wellFormed s t
+  pub formed-tested : (h f a c z : Bool) → h ≡ headerRules t → h ≡ true → f ≡ firstsRule t → a ≡ emptyAbove s t
+      → c ≡ (each (usedAt t) (λ i. recordRules s t i && countersRule s t i) && chainsRise t && each (usedAt t) (onChain t)) → z ≡ restZero t
+      → (f && a && c && z) ≡ wellFormed s t
   unfolding wellFormed
-  formed-records x e f = rw (← e, f, and-false)
-
-  pub formed-tested : (h r f a c z : Bool) → h ≡ headerRules t → h ≡ true → r ≡ each (usedAt t) (λ i. recordRules s t i && countersRule s t i) → r ≡ true
-      → f ≡ firstsRule t → a ≡ emptyAbove s t → c ≡ (chainsRise t && each (usedAt t) (onChain t)) → z ≡ restZero t → (f && a && c && z) ≡ wellFormed s t
-  unfolding wellFormed
-  formed-tested h r f a c z e₁ e₂ e₃ e₄ e₅ e₆ e₇ e₈ = rw (← e₁, e₂, ← e₃, e₄, e₇, ← e₅, ← e₆, ← e₈) (regroup f a (chainsRise t) (each (usedAt t) (onChain t)) z)
+  formed-tested h f a c z e₁ e₂ e₃ e₄ e₅ e₆ =
+      rw (← e₁, e₂, e₅, ← e₃, ← e₄, ← e₆) (regroup f a (each (usedAt t) (λ i. recordRules s t i && countersRule s t i)) (chainsRise t) (each (usedAt t) (onChain t)) z)
     where
-      regroup : (f a c o z : Bool) → (f && a && (c && o) && z) ≡ (true && f && a && true && c && o && z)
-      regroup true true c o z = refl
-      regroup true false c o z = refl
-      regroup false a c o z = refl
+      regroup : (f a r c o z : Bool) → (f && a && (r && c && o) && z) ≡ (true && f && a && r && c && o && z)
+      regroup true true r c o z = refl
+      regroup true false r c o z = refl
+      regroup false a r c o z = refl
 
   -- the answers of the table check
   pub table-length : (x : Bool) → x ≡ (schemaLength s && tableLength t) → x ≡ false → 1 ≡ tableNumber s t

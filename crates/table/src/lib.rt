@@ -163,22 +163,6 @@ pub fn record_good(schema: &[u64], t: &[u64], i: usize) -> bool
     row_good(schema, layout::clock(t), &t[a..a + layout::RECORD_WORDS])
 }
 
-// The same of every used record.
-fn records_good(schema: &[u64], t: &[u64]) -> bool
-    requires { ⌜ (length (now schema) ≡ schemaWords) × (relations (now schema) ≤ mostRelations) × (clockAt (now t) ≤ largestCounter) × (usedAt (now t) ≤ capacityOf (now t)) ⌝ }
-    ensures { λ r. ⌜ r ≡ each (usedAt (now (t .entry))) (λ i. recordRules (now (schema .entry)) (now (t .entry)) i && countersRule (now (schema .entry)) (now (t .entry)) i) ⌝ }
-{
-    let used = layout::used(t);
-    let mut i: usize = 0;
-    while i < used {
-        i += 1;
-        if !record_good(schema, t, i) {
-            return false;
-        }
-    }
-    true
-}
-
 // One step of the chain of relation `r`, onto record `i` from a label.
 pub fn chain_step(t: &[u64], r: usize, low: u64, i: usize) -> bool
     ensures { λ x. ⌜ x ≡ chainStep (now (t .entry)) r low i ⌝ }
@@ -190,16 +174,17 @@ pub fn chain_step(t: &[u64], r: usize, low: u64, i: usize) -> bool
     (i <= used) & own & rises & ends
 }
 
-// A chain that was walked: whether it rises, and how many records it holds.
+// A chain that was walked: whether it rises and its records are good, and how many it holds.
 pub enum Walked {
     Broken,
     Whole(usize),
 }
 
-// Walks the chain of relation `r`. One that comes back to a record stops rising within used + 1 steps.
-pub fn walk_chain(t: &[u64], r: usize) -> Walked
-    requires { ⌜ usedAt (now t) ≤ mostRecords ⌝ }
-    ensures { λ x. ⌜ x ≡ walkedChain (now (t .entry)) r ⌝ }
+// Walks the chain of relation `r`, and tests each record that it meets. A chain that comes back to a record stops rising within
+// used + 1 steps.
+pub fn walk_chain(schema: &[u64], t: &[u64], r: usize) -> Walked
+    requires { ⌜ (length (now schema) ≡ schemaWords) × (relations (now schema) ≤ mostRelations) × (clockAt (now t) ≤ largestCounter) × (usedAt (now t) ≤ capacityOf (now t)) × (usedAt (now t) ≤ mostRecords) ⌝ }
+    ensures { λ x. ⌜ x ≡ walkedChain (now (schema .entry)) (now (t .entry)) r ⌝ }
 {
     let mut left = layout::used(t) + 1;
     let mut low = 0;
@@ -207,6 +192,9 @@ pub fn walk_chain(t: &[u64], r: usize) -> Walked
     let mut i = layout::first_at(t, r);
     while (0 < left) & (0 < i) {
         if !chain_step(t, r, low, i) {
+            return Walked::Broken;
+        }
+        if !record_good(schema, t, i) {
             return Walked::Broken;
         }
         low = layout::label_at(t, i);
@@ -217,17 +205,17 @@ pub fn walk_chain(t: &[u64], r: usize) -> Walked
     Walked::Whole(n)
 }
 
-// The chains rise, and hold every used record: a record lies on the chain of one relation only, and there once, so the lengths
-// of the chains tell.
-pub fn chains(t: &[u64]) -> bool
-    requires { ⌜ usedAt (now t) ≤ mostRecords ⌝ }
-    ensures { λ x. ⌜ x ≡ (chainsRise (now (t .entry)) && each (usedAt (now (t .entry))) (onChain (now (t .entry)))) ⌝ }
+// The used records are good, and the chains rise and hold every one of them: a record lies on the chain of one relation only, and
+// there once, so the lengths of the chains tell.
+pub fn chains(schema: &[u64], t: &[u64]) -> bool
+    requires { ⌜ (length (now schema) ≡ schemaWords) × (relations (now schema) ≤ mostRelations) × (clockAt (now t) ≤ largestCounter) × (usedAt (now t) ≤ capacityOf (now t)) × (usedAt (now t) ≤ mostRecords) ⌝ }
+    ensures { λ x. ⌜ x ≡ (each (usedAt (now (t .entry))) (λ i. recordRules (now (schema .entry)) (now (t .entry)) i && countersRule (now (schema .entry)) (now (t .entry)) i) && chainsRise (now (t .entry)) && each (usedAt (now (t .entry))) (onChain (now (t .entry)))) ⌝ }
 {
     let mut count = 0;
     let mut r: usize = 0;
     while r < layout::MOST_RELATIONS {
         r += 1;
-        let Walked::Whole(n) = walk_chain(t, r) else {
+        let Walked::Whole(n) = walk_chain(schema, t, r) else {
             return false;
         };
         count += n;
@@ -257,10 +245,7 @@ pub fn well_formed(schema: &[u64], t: &[u64]) -> bool
     if !header_rules(t) {
         return false;
     }
-    if !records_good(schema, t) {
-        return false;
-    }
-    firsts_rule(t) & empty_above(schema, t) & chains(t) & rest_zero(t)
+    firsts_rule(t) & empty_above(schema, t) & chains(schema, t) & rest_zero(t)
 }
 
 // Whether a slice is a well-formed table under a schema.

@@ -2,13 +2,14 @@
 -- Assumes nothing.
 use Prim.Native.Nat.{_≤_, _-_, _+_, _*_}
 use mathlib.Core.Path.{_≡_, sym, _∙_}
-use mathlib.Core.Bool.{true}
+use mathlib.Core.Bool.{true, _&&_}
 use native.Mathlib.Omega.{arith}
 use lib.ListN.{length}
 use Rattle.model.specs.Layout.{mostRelations, mostRecords}
-use Rattle.model.specs.Lists.{each}
+use Rattle.model.specs.Lists.{each, all-of}
 use Rattle.model.specs.WellFormed.{chainOf, rises}
 use Rattle.layout.proofs.Each.{each-none, each-next}
+use Rattle.table.specs.Chains.{recordGood}
 use Rattle.table.proofs.Links.{walked-whole, walked-broken, chain-length}
 use Rattle.table.proofs.Count.{sumTo, sum-none, chains-broken, chains-more, chains-counted}
 use borrow.Author.Needs.{needs}
@@ -16,10 +17,10 @@ use Rattle.table.proofs.chains.Statement.{statement}
 use Rattle.table.proofs.chains.Tie as tie
 
 abbrev Inv-loop : tie.InvT-loop
-Inv-loop t count₀ r₀ count r = (r ≤ mostRelations) × (count ≤ (mostRecords + 1) * r) × (count ≡ sumTo r (λ q. length (chainOf t q))) × (each r (λ q. rises t q 0 (chainOf t q)) ≡ true)
+Inv-loop schema t count₀ r₀ count r = (r ≤ mostRelations) × (count ≤ (mostRecords + 1) * r) × (count ≡ sumTo r (λ q. length (chainOf t q))) × (each r (λ q. rises t q 0 (chainOf t q) && all-of (recordGood schema t) (chainOf t q)) ≡ true)
 
 abbrev μ-loop : tie.MeasureT-loop
-μ-loop t count₀ r₀ count r = mostRelations - r
+μ-loop schema t count₀ r₀ count r = mostRelations - r
 
 loop-holds : tie.Need-loop-holds Inv-loop μ-loop
 loop-holds c = (omega arith, omega arith, sum-none _, sym (each-none _))
@@ -37,21 +38,21 @@ enum-told : tie.Need-enum-told Inv-loop μ-loop
 enum-told c = search needs
 
 returns : tie.Need-returns Inv-loop μ-loop
-returns c = chains-broken _ (c .before .before .before .before .loop .r + 1) (omega arith) (omega arith) (walked-broken _ _ (sym (c .enum-told .given .1) ∙ c .before .before .walk-chain .ensures))
+returns c = chains-broken _ _ (c .before .before .before .before .loop .r + 1) (omega arith) (omega arith) (walked-broken _ _ _ (sym (c .enum-told .given .1) ∙ c .before .before .walk-chain .ensures))
 
 add-count : tie.Need-add-count Inv-loop μ-loop
 add-count c =
     omega
-    (arith, walked-whole (c .before .before .before .before .before .before .before .args .t .now) (c .before .before .before .before .before .loop .r + 1) _ (sym (c .before .n .given .1) ∙ c .before .before .before .walk-chain .ensures), chain-length (c .before .before .before .before .before .before .before .args .t .now) (c .before .before .before .before .before .loop .r + 1))
+    (arith, walked-whole (c .before .before .before .before .before .before .before .before .args .schema .now) (c .before .before .before .before .before .before .before .before .args .t .now) (c .before .before .before .before .before .loop .r + 1) _ (sym (c .before .n .given .1) ∙ c .before .before .before .walk-chain .ensures), chain-length (c .before .before .before .before .before .before .before .before .args .t .now) (c .before .before .before .before .before .loop .r + 1))
 
 loop-less : tie.Need-loop-less Inv-loop μ-loop
 loop-less c = search needs
 
 loop-again : tie.Need-loop-again Inv-loop μ-loop
 loop-again c =
-    let w = walked-whole (c .before .before .before .before .before .before .before .args .t .now) (c .before .before .before .before .before .loop .r + 1) _ (sym (c .before .n .given .1) ∙ c .before .before .before .walk-chain .ensures) in (
+    let w = walked-whole (c .before .before .before .before .before .before .before .before .args .schema .now) (c .before .before .before .before .before .before .before .before .args .t .now) (c .before .before .before .before .before .loop .r + 1) _ (sym (c .before .n .given .1) ∙ c .before .before .before .walk-chain .ensures) in (
       omega arith,
-      omega (arith, w, chain-length (c .before .before .before .before .before .before .before .args .t .now) (c .before .before .before .before .before .loop .r + 1)),
+      omega (arith, w, chain-length (c .before .before .before .before .before .before .before .before .args .t .now) (c .before .before .before .before .before .loop .r + 1)),
       chains-more _ _ _ _ (w .1) (c .before .before .before .before .before .loop .inv .2),
       each-next _ _ (c .before .before .before .before .before .loop .inv .3) (w .0),
     )
@@ -62,7 +63,7 @@ used-requires c κs = search needs
 returns-2 : tie.Need-returns-2 Inv-loop μ-loop
 returns-2 c =
     let e : c .before .before .loop .r ≡ mostRelations = omega arith in
-    chains-counted _ _ _ (rw e at (c .before .before .loop .inv .3)) (rw e at (c .before .before .loop .inv .2)) (c .used .ensures)
+    chains-counted _ (recordGood (c .before .before .before .before .before .args .schema .now) (c .before .before .before .before .before .args .t .now)) _ _ (rw e at (c .before .before .loop .inv .3)) (rw e at (c .before .before .loop .inv .2)) (c .used .ensures)
 
 pub chains-spec : {M : Type 1} → statement M
 chains-spec =

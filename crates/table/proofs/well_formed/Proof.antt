@@ -5,7 +5,7 @@ use native.Mathlib.Omega.{arith}
 use borrow.Author.Tests.{not-true, not-false}
 use borrow.Author.Needs.{needs}
 use Rattle.layout.proofs.Stride.{sized, schema-sized}
-use Rattle.table.proofs.Rules.{Header, header-says, sound-relations, formed-header, formed-records, formed-tested}
+use Rattle.table.proofs.Rules.{Header, header-says, sound-relations, formed-header, formed-tested}
 use Rattle.table.proofs.well_formed.Statement.{statement}
 use Rattle.table.proofs.well_formed.Tie as tie
 
@@ -18,14 +18,6 @@ returns c = formed-header _ _ _ (c .before .header-rules .ensures) (not-true _ (
 known : (c : tie.Else1) → Header (c .before .before .before .before .args .t .now)
 known c = header-says _ (sym (c .before .header-rules .ensures) ∙ not-false _ (c .if1 .left))
 
-records-good-requires : tie.Need-records-good-requires
-records-good-requires c κs =
-    let p = c .before .before .before .before .pre in
-    (schema-sized _ (p .0), sound-relations _ (p .2), known c .clock, known c .used)
-
-returns-2 : tie.Need-returns-2
-returns-2 c = formed-records _ _ _ (c .before .records-good .ensures) (not-true _ (c .if2 .taken))
-
 firsts-rule-requires : tie.Need-firsts-rule-requires
 firsts-rule-requires c κs = search needs
 
@@ -34,19 +26,16 @@ empty-above-requires c κs = search needs
 
 chains-requires : tie.Need-chains-requires
 chains-requires c κs =
-    let e = c .before .before .before .before in
-    omega (arith, known e, sized _ (e .before .before .before .before .pre .1))
+    let e = c .before .before in
+    let p = c .before .before .before .before .before .before .pre in
+    (schema-sized _ (p .0), sound-relations _ (p .2), known e .clock, known e .used, omega (arith, known e, sized _ (p .1)))
 
 rest-zero-requires : tie.Need-rest-zero-requires
-rest-zero-requires c κs =
-    let e = c .before .before .before .before .before in
-    omega (arith, known e, sized _ (e .before .before .before .before .pre .1))
+rest-zero-requires c κs = omega (arith, known (c .before .before .before), sized _ (c .before .before .before .before .before .before .before .pre .1))
 
-returns-3 : tie.Need-returns-3
-returns-3 c =
-    let e = c .before .before .before .before .before .before in
-    formed-tested _ _ _ _ _ _ _ _ (e .before .header-rules .ensures) (not-false _ (e .if1 .left)) (c .before .before .before .before .before .records-good .ensures)
-    (not-false _ (c .before .before .before .before .if2 .left)) (c .before .before .before .firsts-rule .ensures) (c .before .before .empty-above .ensures)
+returns-2 : tie.Need-returns-2
+returns-2 c =
+    formed-tested _ _ _ _ _ _ _ (c .before .before .before .before .before .header-rules .ensures) (not-false _ (c .before .before .before .before .if1 .left)) (c .before .before .before .firsts-rule .ensures) (c .before .before .empty-above .ensures)
     (c .before .chains .ensures) (c .rest-zero .ensures)
 
 pub well-formed-spec : {M : Type 1} → statement M
@@ -55,10 +44,8 @@ well-formed-spec =
     (tie.spec
     header-rules-requires
     returns
-    records-good-requires
-    returns-2
     firsts-rule-requires
     empty-above-requires
     chains-requires
     rest-zero-requires
-    returns-3)
+    returns-2)
