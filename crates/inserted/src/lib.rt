@@ -1,4 +1,3 @@
-// NOTICE (remove this line): newLabel is repaired in crates/model/specs/Edits.antt as you proposed (labelWithin); see /tmp/done/inserted.note. The contract of judge_insertion stands as given.
 // The checks of an insertion over a judged table, in number order.
 ghost use mathlib.Core.Path.{_≡_};
 ghost use mathlib.Core.Bool.{true};
