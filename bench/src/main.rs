@@ -1,17 +1,26 @@
 //! The benchmark: each call of the library against the second implementation and against a plain copy of the words that it
 //! is lent, side by side in one run. It prints a table and, with a path as its argument, writes the picture of it.
 
-mod library;
 mod picture;
 mod tables;
 
+use herd::{raw, DELTA_WORDS, FIELDS, HEADER_WORDS, HEAD_WORDS, RECORD_WORDS};
 use second::random::Random;
 use std::hint::black_box;
 use std::time::Instant;
 use tables::Subject;
 
 const SIZES: [usize; 4] = [64, 256, 1024, 4096];
-const DELTA: usize = 196;
+
+/// Words of a table: how many records are used, and of a record its relation and its label.
+const USED: usize = 2;
+const RELATION: usize = 1;
+const LABEL: usize = 2;
+
+/// The first word of the record with an index.
+fn record_at(index: usize) -> usize {
+    HEADER_WORDS + RECORD_WORDS * (index - 1)
+}
 
 /// One line: a call on a subject, with nanoseconds for each size.
 pub struct Line {
@@ -98,13 +107,13 @@ fn line(
 
 fn checks(subjects: &[Subject]) -> Line {
     line("table check", "pass", subjects, |x, size| {
-        assert_eq!(library::table_check(&x.schema, &x.full), 0);
+        assert_eq!(raw::table_check(&x.schema, &x.full), 0);
         (
             timed(
                 times(size),
                 || (),
                 |_| {
-                    black_box(library::table_check(&x.schema, black_box(&x.full)));
+                    black_box(raw::table_check(&x.schema, black_box(&x.full)));
                 },
             ),
             timed(
@@ -123,7 +132,7 @@ fn schemas(subjects: &[Subject]) -> Line {
     line("schema check", "pass", subjects, |x, _| {
         (
             quick(|| {
-                black_box(library::schema_check(black_box(&x.schema)));
+                black_box(raw::schema_check(black_box(&x.schema)));
             }),
             quick(|| {
                 let _ = black_box(second::schema_check(black_box(&x.schema)));
@@ -140,7 +149,7 @@ fn schemas(subjects: &[Subject]) -> Line {
 fn starts(subjects: &[Subject]) -> Line {
     line("start", "copy", subjects, |x, size| {
         (
-            timed(times(size), || x.full.clone(), |t| assert_eq!(library::start(t, 3), 0)),
+            timed(times(size), || x.full.clone(), |t| assert_eq!(raw::start(t, 3), 0)),
             timed(12, || x.full.clone(), |t| assert!(second::start(t, 3).is_ok())),
             copy(&[&x.full]),
         )
@@ -151,7 +160,7 @@ fn merges(subjects: &[Subject]) -> Line {
     line("merge", "copy of both", subjects, |x, size| {
         let own = || x.own.clone();
         (
-            timed(times(size), own, |t| assert_eq!(library::merge(&x.schema, t, &x.other), 0)),
+            timed(times(size), own, |t| assert_eq!(raw::merge(&x.schema, t, &x.other), 0)),
             timed(12, own, |t| assert!(second::merge(&x.schema, t, &x.other).is_ok())),
             copy(&[&x.own, &x.other]),
         )
@@ -161,12 +170,13 @@ fn merges(subjects: &[Subject]) -> Line {
 fn marks(subjects: &[Subject]) -> Line {
     line("marks", "pass", subjects, |x, size| {
         let bytes = || vec![0u8; size];
-        let (answer, count) = library::marks(&x.schema, &x.full, &mut bytes());
+        let mut count = 0;
+        let answer = raw::marks(&x.schema, &x.full, &mut bytes(), &mut count);
         assert_eq!(answer, 0);
         assert_eq!(second::marks(&x.schema, &x.full, &mut bytes()).ok(), Some(count));
         (
             timed(times(size).min(40), bytes, |m| {
-                black_box(library::marks(&x.schema, &x.full, m));
+                black_box(raw::marks(&x.schema, &x.full, m, &mut 0));
             }),
             timed(3, bytes, |m| {
                 let _ = black_box(second::marks(&x.schema, &x.full, m));
@@ -179,13 +189,13 @@ fn marks(subjects: &[Subject]) -> Line {
 fn walks(subjects: &[Subject]) -> Line {
     line("walk, one step", "pass", subjects, |x, size| {
         let mut bytes = vec![0u8; size];
-        library::marks(&x.schema, &x.full, &mut bytes);
+        raw::marks(&x.schema, &x.full, &mut bytes, &mut 0);
         (
             timed(
                 times(size),
                 || 0u64,
                 |place| {
-                    black_box(library::walk(&x.schema, &x.full, &bytes, place));
+                    black_box(raw::walk(&x.schema, &x.full, &bytes, place, &mut 0));
                 },
             ),
             timed(
@@ -206,15 +216,15 @@ fn values(subjects: &[Subject]) -> Line {
         let index = 1 + random.below(size as u64) as usize;
         (
             quick(|| {
-                black_box(library::values(black_box(&x.full), black_box(index)));
+                black_box(raw::values(black_box(&x.full), black_box(index), &mut 0));
             }),
             quick(|| {
                 black_box(second::values(black_box(&x.full), black_box(index as u64)));
             }),
             quick(|| {
-                let at = 16 + 20 * (black_box(index) - 1) + 4;
+                let at = record_at(black_box(index)) + HEAD_WORDS;
                 black_box(
-                    x.full[at..at + 8].iter().fold(0u64, |sum, word| sum.wrapping_add(*word)),
+                    x.full[at..at + FIELDS].iter().fold(0u64, |sum, word| sum.wrapping_add(*word)),
                 );
             }),
         )
@@ -232,14 +242,14 @@ struct Change {
 /// The index of the last shown record of a relation; 0 where there is none.
 fn last_shown(x: &Subject, size: usize, relation: usize) -> usize {
     let mut bytes = vec![0u8; size];
-    library::marks(&x.schema, &x.own, &mut bytes);
-    let of = |at: &usize| x.own[16 + 20 * (at - 1) + 1] == relation as u64 && bytes[at - 1] == 1;
-    (1..=x.own[2] as usize).rev().find(of).unwrap_or(0)
+    raw::marks(&x.schema, &x.own, &mut bytes, &mut 0);
+    let of = |at: &usize| x.own[record_at(*at) + RELATION] == relation as u64 && bytes[at - 1] == 1;
+    (1..=x.own[USED] as usize).rev().find(of).unwrap_or(0)
 }
 
 /// A milking of a barn, and its grams.
 fn milking(x: &Subject, size: usize) -> Change {
-    let label = |relation| x.own[16 + 20 * (last_shown(x, size, relation) - 1) + 2];
+    let label = |relation| x.own[record_at(last_shown(x, size, relation)) + LABEL];
     Change { relation: 4, values: vec![label(2), label(3), 9000, 385, 100], field: 3, value: 9100 }
 }
 
@@ -263,27 +273,27 @@ fn edits(subjects: &[Subject], change: fn(&Subject, usize) -> Change) -> Vec<Lin
             times(size).min(40),
             || vec![0u8; size],
             |m| {
-                black_box(library::marks(&x.schema, &x.own, m));
+                black_box(raw::marks(&x.schema, &x.own, m, &mut 0));
             },
         ) + timed(
             times(size),
             || x.own.clone(),
             |t| {
-                assert_eq!(library::merge(&x.schema, t, delta), 0);
+                assert_eq!(raw::merge(&x.schema, t, delta), 0);
             },
         )
     };
-    let own = |x: &Subject| (x.own.clone(), vec![0u64; DELTA]);
+    let own = |x: &Subject| (x.own.clone(), vec![0u64; DELTA_WORDS]);
     let mut lines = vec![line("insertion", PLAIN, subjects, |x, size| {
         let c = change(x, size);
         let (mut t, mut d) = own(x);
-        assert_eq!(library::insert(&x.schema, &mut t, &mut d, c.relation, &c.values).0, 0);
+        assert_eq!(raw::insert(&x.schema, &mut t, &mut d, c.relation, &c.values, &mut 0), 0);
         (
             timed(
                 times(size).min(40),
                 || own(x),
                 |(t, d)| {
-                    black_box(library::insert(&x.schema, t, d, c.relation, &c.values));
+                    black_box(raw::insert(&x.schema, t, d, c.relation, &c.values, &mut 0));
                 },
             ),
             timed(
@@ -309,13 +319,13 @@ fn edits(subjects: &[Subject], change: fn(&Subject, usize) -> Change) -> Vec<Lin
         let c = change(x, size);
         let index = last_shown(x, size, c.relation);
         let (mut t, mut d) = own(x);
-        assert_eq!(library::update(&x.schema, &mut t, &mut d, index, c.field, c.value), 0);
+        assert_eq!(raw::update(&x.schema, &mut t, &mut d, index, c.field, c.value), 0);
         (
             timed(
                 times(size).min(40),
                 || own(x),
                 |(t, d)| {
-                    black_box(library::update(&x.schema, t, d, index, c.field, c.value));
+                    black_box(raw::update(&x.schema, t, d, index, c.field, c.value));
                 },
             ),
             timed(
@@ -332,13 +342,13 @@ fn edits(subjects: &[Subject], change: fn(&Subject, usize) -> Change) -> Vec<Lin
     lines.push(line("deletion", PLAIN, subjects, |x, size| {
         let index = last_shown(x, size, change(x, size).relation);
         let (mut t, mut d) = own(x);
-        assert_eq!(library::delete(&x.schema, &mut t, &mut d, index), 0);
+        assert_eq!(raw::delete(&x.schema, &mut t, &mut d, index), 0);
         (
             timed(
                 times(size).min(40),
                 || own(x),
                 |(t, d)| {
-                    black_box(library::delete(&x.schema, t, d, index));
+                    black_box(raw::delete(&x.schema, t, d, index));
                 },
             ),
             timed(

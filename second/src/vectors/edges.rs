@@ -5,7 +5,7 @@ use super::*;
 use crate::cases::{herd, record, GROUP};
 use crate::label::{label_of, LARGEST_COUNTER, LARGEST_FLAG};
 use crate::random::{self, Random, Shape};
-use crate::table::{Table, DELTA_WORDS, HEADER};
+use crate::table::{Table, DELTA_WORDS, HEADER, RECORD};
 
 const ROOM: u8 = 26;
 const FULL: u8 = 27;
@@ -80,7 +80,7 @@ fn ends(items: &mut Items, random: &mut Random) {
     for _ in 0..TABLES {
         let schema = random::schema(random);
         let words = some_table(random, &schema);
-        let mut bytes = vec![0; (words.len() - HEADER) / 20];
+        let mut bytes = vec![0; (words.len() - HEADER) / RECORD];
         let _ = crate::marks(&schema, &words, &mut bytes);
         let marks: Vec<u64> = bytes.iter().map(|mark| *mark as u64).collect();
         let mut place = 0;
