@@ -10,8 +10,8 @@ use native.Mathlib.Numerals.{add-one}
 use lib.Dec.{eqb, ltb, leb}
 use lib.ListN.{length, getD, set, replicate, length-set, length-replicate, getD-replicate}
 use lib.Seq.{ext-getD, getD-set-same, getD-set-other}
-use borrow.Author.Tests.{eqb-true, eqb-false, eq-eqb, le-leb}
-use Rattle.crdt.specs.Labels.{largestCounter, labelWithin, isReplica, isCounter}
+use borrow.Author.Tests.{eqb-true, eqb-false, eq-eqb}
+use Rattle.crdt.specs.Labels.{largestCounter, labelWithin}
 use Rattle.crdt.specs.Flags.{redone, deleted}
 use Rattle.crdt.specs.Cells.{reg}
 use Rattle.crdt.proofs.Tests.{test, clash, and-left, and-right, and-both}
@@ -145,9 +145,9 @@ module _ (t m : List ℕ) (src : Source t m) (e n : ℕ) (ed : Edited t e n) whe
       go (inr w) = w .clock
 
 -- the label of a new record
-pub label-within : (t : List ℕ) (c r : ℕ) → clockAt t < largestCounter → isReplica (replicaAt t) ≡ true → c ≡ clockAt t → r ≡ replicaAt t → labelWithin (c + 1) r ≡ newLabel (decode t)
+pub label-now : (t : List ℕ) (c r : ℕ) → c ≡ clockAt t → r ≡ replicaAt t → labelWithin (c + 1) r ≡ newLabel (decode t)
 unfolding newLabel decode
-label-within t c r h g x y = rw (x, y) refl
+label-now t c r x y = rw (x, y) refl
 
 -- the search for a record
 pub found-not : (d : List ℕ) (r l i : ℕ) (f : Findable d r l) (b : Bool) → b ≡ (eqb (relationAt d i) r && eqb (labelAt d i) l) → b ≡ false → i ≢ f .index

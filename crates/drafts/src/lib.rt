@@ -5,10 +5,10 @@ ghost use mathlib.Core.List.{[]};
 ghost use Prim.Native.Nat.{_+_, _≤_, _<_};
 ghost use lib.Dec.{eqb};
 ghost use lib.ListN.{length, replicate};
-ghost use Rattle.crdt.specs.Labels.{largestCounter, isReplica};
+ghost use Rattle.crdt.specs.Labels.{largestCounter};
 ghost use Rattle.crdt.specs.Flags.{redone, deleted};
 ghost use Rattle.crdt.specs.Cells.{reg};
-ghost use Rattle.model.specs.Layout.{fields, mostRelations, mostRecords, deltaRecords, deltaWords, replicaAt, clockAt, usedAt, relationAt, labelAt, flagAt};
+ghost use Rattle.model.specs.Layout.{fields, mostRelations, mostRecords, deltaRecords, deltaWords, clockAt, usedAt, relationAt, labelAt, flagAt};
 ghost use Rattle.model.specs.Records.{place};
 ghost use Rattle.model.specs.Tables.{decode, encode, recordOf};
 ghost use Rattle.model.specs.Edits.{newLabel, newRecord, flagOnly, withRegister};
@@ -116,8 +116,8 @@ fn draft_chain(
 }
 
 // The label of a new record, and the stamp of a new value.
-fn new_label(table: &[u64]) -> u64
-    requires { ⌜ (clockAt (now table) < largestCounter) × (isReplica (replicaAt (now table)) ≡ true) ⌝ }
+pub fn new_label(table: &[u64]) -> u64
+    requires { ⌜ clockAt (now table) < largestCounter ⌝ }
     ensures { λ l. ⌜ l ≡ newLabel (decode (now (table .entry))) ⌝ }
 {
     crdt::Label::of(layout::clock(table) + 1, layout::replica(table)).0

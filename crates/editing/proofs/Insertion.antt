@@ -8,14 +8,14 @@ use mathlib.Core.List.{List}
 use lib.ListN.{length}
 use borrow.Author.Tests.{ne-eqb}
 use Rattle.answers.specs.Told.{Told, told}
-use Rattle.crdt.specs.Labels.{largestCounter, labelWithin}
-use Rattle.model.specs.Layout.{fields, mostRecords, replicaAt, clockAt}
+use Rattle.crdt.specs.Labels.{largestCounter}
+use Rattle.model.specs.Layout.{fields, mostRecords, clockAt}
 use Rattle.model.specs.Lists.{lowest}
 use Rattle.model.specs.Schemas.{isReference}
-use Rattle.model.specs.Tables.{Table, decode, encode}
+use Rattle.model.specs.Tables.{decode, encode}
 use Rattle.model.specs.Shown.{leads}
 use Rattle.model.specs.Merge.{merged}
-use Rattle.model.specs.Edits.{Edit, newLabel, newRecord, odd, insertion}
+use Rattle.model.specs.Edits.{newLabel, newRecord, odd, insertion}
 use Rattle.model.specs.Calls.{insertionOf, insertionNumber, insertionLabel, insertionTable, insertionDelta}
 use Rattle.laws.proofs.Drafts.{insertion-drafted}
 use Rattle.runs.proofs.Tables.{narrow}
@@ -26,7 +26,7 @@ use Rattle.drafts.specs.Drafting.{ReadyToInsert}
 use Rattle.judging.specs.Targets.{kindsOf, bare, held}
 use Rattle.verdicts.proofs.Insertion.{Accepted, accepted}
 use Rattle.editing.specs.First.{firstNumber}
-use Rattle.editing.proofs.First.{Entered, edit-refused, edit-judged, edit-entered}
+use Rattle.editing.proofs.First.{edit-refused, edit-judged, edit-entered}
 use Rattle.editing.proofs.Redone.{odd-known, insertion-few}
 use Rattle.editing.proofs.Accepted.{checked-valid, fields-few, Planned, own-passed, accepted-entered, draft-ready, draft-mergeable, delta-written, table-written, table-kept, delta-kept}
 
@@ -135,8 +135,3 @@ module _ (s t d : List ℕ) (r : ℕ) (vs : List ℕ) (k : Told) (a : k ≡ told
     pub insertion-kept : (t ≡ insertionTable s t d r vs) × (d ≡ insertionDelta s t d r vs)
     unfolding insertionTable insertionDelta
     insertion-kept = (table-kept (insertionNumber s t d r vs) t d (insertionOf s t r vs) refused, delta-kept (insertionNumber s t d r vs) t d (insertionOf s t r vs) refused)
-
--- the label by the words
-pub label-is : (t : List ℕ) (c p l : ℕ) → c ≡ clockAt t → p ≡ replicaAt t → l ≡ labelWithin (c + 1) p → l ≡ newLabel (decode t)
-unfolding newLabel decode
-label-is t c p l e q f = f ∙ ap (λ (n : ℕ). labelWithin (n + 1) p) e ∙ ap (labelWithin (clockAt t + 1)) q

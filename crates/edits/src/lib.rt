@@ -1,15 +1,14 @@
 // The three edits of document 01: judge, then draft the delta, then merge the delta into the own table. A refusal changes no word.
 ghost use mathlib.Core.Path.{_≡_};
-ghost use Prim.Native.Nat.{_<_, _*_};
+ghost use Prim.Native.Nat.{_*_};
 ghost use lib.ListN.{length};
 ghost use Rattle.answers.specs.Told.{told, tableTold, insertionTold, updateTold, deletionTold};
-ghost use Rattle.crdt.specs.Labels.{largestCounter};
-ghost use Rattle.model.specs.Layout.{fields, mostRecords, clockAt, relationAt, valueAt, kindAt};
+ghost use Rattle.model.specs.Layout.{fields, mostRecords, relationAt, valueAt, kindAt};
 ghost use Rattle.model.specs.Lists.{lowest};
 ghost use Rattle.model.specs.Schemas.{isReference, schemaOf};
-ghost use Rattle.model.specs.Tables.{decode, recordOf};
+ghost use Rattle.model.specs.Tables.{recordOf};
 ghost use Rattle.model.specs.Shown.{leads, standing, shown};
-ghost use Rattle.model.specs.Edits.{Edit, newLabel, odd, updateRedoes, deletionRedoes};
+ghost use Rattle.model.specs.Edits.{Edit, odd, updateRedoes, deletionRedoes};
 ghost use Rattle.model.specs.Calls.{insertionOf, insertionNumber, insertionLabel, insertionTable, insertionDelta, updateOf, updateNumber, updateTable, updateDelta, deletionOf, deletionNumber, deletionTable, deletionDelta};
 ghost use Rattle.resolved.specs.Order.{Checked};
 ghost use Rattle.resolved.specs.Resolved.{Resolves, Marked};
@@ -20,7 +19,6 @@ use answers::DeletionAnswer;
 use answers::InsertionAnswer;
 use answers::TableAnswer;
 use answers::UpdateAnswer;
-use crdt::Label;
 
 // Checks 1 to 3 of an edit; `bad` says that its record index is bad.
 fn first_checks(schema: &[u64], own: &[u64], delta: &[u64], bad: bool) -> TableAnswer
@@ -100,14 +98,6 @@ fn judge_insertion(
     }
 }
 
-// The label of a new record.
-fn new_label(own: &[u64]) -> u64
-    requires { ⌜ clockAt (now own) < largestCounter ⌝ }
-    ensures { λ l. ⌜ l ≡ newLabel (decode (now (own .entry))) ⌝ }
-{
-    Label::of(layout::clock(own) + 1, layout::replica(own)).0
-}
-
 // Inserts a record of relation `relation` into the own table, and writes the delta.
 pub fn insertion(
     schema: &[u64],
@@ -125,7 +115,7 @@ pub fn insertion(
     if answer.number() != 0 {
         return answer;
     }
-    let label = new_label(own);
+    let label = drafts::new_label(own);
     drafts::draft_insertion(schema, own, delta, relation, values, &redo);
     merge::act(own, delta);
     InsertionAnswer::Inserted(label)

@@ -9,7 +9,7 @@ use native.Mathlib.Omega.{arith}
 use lib.Dec.{eqb}
 use borrow.Author.Tests.{eqb-true, eq-eqb, lt-ltb}
 use Rattle.crdt.specs.Flags.{largestFlag, isOdd, isEven, deleted, redone}
-use Rattle.crdt.proofs.Tests.{test, clash}
+use Rattle.crdt.proofs.Tests.{test, clash, and-none}
 use Rattle.model.specs.Lists.{only, some-of}
 use Rattle.model.specs.Records.{Rec}
 use Rattle.model.specs.Edits.{flagOf, odd, spent}
@@ -21,11 +21,7 @@ use Rattle.effects.proofs.Joins.{among}
 -- a key among those that pass a test
 pub among-only : (p : ℕ → Bool) (k : ℕ) (l : List ℕ) → among k (only p l) ≡ (p k && among k l)
 unfolding only some-of
-among-only p k [] = go (p k)
-  where
-    go : (b : Bool) → false ≡ (b && false)
-    go true = refl
-    go false = refl
+among-only p k [] = and-none (p k)
 among-only p k (j ∷ l) = go (test (eqb k j)) (test (p j)) (among-only p k l)
   where
     go : (eqb k j ≡ true) ⊎ (eqb k j ≡ false) → (p j ≡ true) ⊎ (p j ≡ false) → among k (only p l) ≡ (p k && among k l)

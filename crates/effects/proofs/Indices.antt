@@ -7,6 +7,7 @@ use mathlib.Core.List.{List, _∷_}
 use native.Mathlib.Omega.{arith}
 use lib.Dec.{eqb, ltb}
 use borrow.Author.Tests.{eqb-false, ltb-false}
+use Rattle.crdt.proofs.Tests.{or-false}
 use Rattle.model.specs.Layout.{capacityOf, usedAt}
 use Rattle.model.specs.Lists.{all-of, check}
 use Rattle.model.specs.Schemas.{broken}
@@ -18,7 +19,6 @@ use Rattle.laws.proofs.Valid.{true-distinct}
 use Rattle.laws.proofs.Checks.{numbered, passed}
 use Rattle.encoded.proofs.Follow.{recordAt, same-position}
 use Rattle.runs.proofs.Tables.{Good, good-valid}
-use Rattle.listing.proofs.Fields.{or-false}
 use Rattle.effects.specs.Effects.{keyAt}
 use Rattle.effects.proofs.Words.{used-is, record-is, reads}
 

@@ -7,7 +7,7 @@ use mathlib.Core.Bool.{Bool, true, false, cond, _||_, not}
 use mathlib.Core.List.{List, []}
 use native.Mathlib.Omega.{arith}
 use lib.ListN.{length, take, drop, length-take, length-drop}
-use Rattle.crdt.proofs.Tests.{clash}
+use Rattle.crdt.proofs.Tests.{or-false}
 use Rattle.model.specs.Layout.{fields, recordWords, headWords, base}
 use Rattle.model.specs.Lists.{lowest}
 use Rattle.model.specs.Calls.{tableLength, badIndex, valuesNumber, valuesPart}
@@ -30,10 +30,6 @@ pub data Part (t : List ℕ) (i : ℕ) : Type 0 where
   refused : length (valuesPart t i) ≡ 0 → Refused t i → Part t i
   given : length (valuesPart t i) ≡ fields → Given t i → Part t i
 
-neither : (x y : Bool) → (x || y) ≡ false → y ≡ false
-neither true y h = clash refl h
-neither false y h = h
-
 pub part : (t : List ℕ) (i : ℕ) → Part t i
 unfolding valuesPart valuesNumber valuesFirst lowest
 part t i = go (not (tableLength t) || badIndex t i) refl
@@ -41,7 +37,7 @@ part t i = go (not (tableLength t) || badIndex t i) refl
     go : (b : Bool) → b ≡ (not (tableLength t) || badIndex t i) → Part t i
     go true e = refused (rw (← e) refl) (record { number = rw (← e) refl; first = rw (← e) refl })
     go false e =
-        let o = index-inside t i (neither (not (tableLength t)) (badIndex t i) (sym e)) in
+        let o = index-inside t i (or-false (not (tableLength t)) (badIndex t i) (sym e) .1) in
         given (rw (← e) (part-long t i o)) (record { number = rw (← e) refl; first = rw (← e) refl; inside = o })
 
 pub empty-part : (t : List ℕ) (i : ℕ) → length (valuesPart t i) ≡ 0 → Refused t i

@@ -8,7 +8,7 @@ use mathlib.Core.List.{List, [], _∷_, _++_}
 use native.Mathlib.Omega.{arith}
 use lib.Dec.{eqb}
 use borrow.Author.Tests.{eqb-true}
-use Rattle.crdt.proofs.Tests.{test, clash, Tri, low, same, high, tri}
+use Rattle.crdt.proofs.Tests.{test, clash, and-none, Tri, low, same, high, tri}
 use Rattle.model.specs.Lists.{only, some-of, all-of}
 
 pub same-test : (x y : Bool) → (x ≡ true → y ≡ true) → (y ≡ true → x ≡ true) → x ≡ y
@@ -63,11 +63,7 @@ module _ {A : Type 0} where
 -- a number among those of a list that pass
 pub among-only : (a : ℕ) (q : ℕ → Bool) (l : List ℕ) → some-of (λ k. eqb a k) (only q l) ≡ (q a && some-of (λ k. eqb a k) l)
 unfolding some-of only
-among-only a q [] = none (q a)
-  where
-    none : (b : Bool) → false ≡ (b && false)
-    none true = refl
-    none false = refl
+among-only a q [] = and-none (q a)
 among-only a q (x ∷ xs) = go (test (eqb a x)) (test (q x)) (among-only a q xs)
   where
     go : (eqb a x ≡ true) ⊎ (eqb a x ≡ false) → (q x ≡ true) ⊎ (q x ≡ false) → some-of (λ k. eqb a k) (only q xs) ≡ (q a && some-of (λ k. eqb a k) xs)

@@ -10,7 +10,7 @@ use native.Mathlib.Omega.{arith}
 use lib.Dec.{leb, ltb, eqb}
 use lib.ListN.{length}
 use borrow.Author.Tests.{leb-true, eqb-true, eqb-false, ltb-false}
-use Rattle.crdt.proofs.Tests.{clash, and-left, and-right}
+use Rattle.crdt.proofs.Tests.{or-false, and-left, and-right}
 use Rattle.model.specs.Layout.{headerWords, recordWords, blockWords, schemaWords, mostRelations, mostRecords, deltaWords, deltaRecords, block, base, capacityOf, usedAt}
 use Rattle.model.specs.Calls.{schemaLength, tableLength, deltaLength, badIndex}
 
@@ -102,11 +102,7 @@ inside t i h g = record { small = omega arith; within = omega arith }
 pub index-inside : (t : List ℕ) (i : ℕ) → badIndex t i ≡ false → Inside t i
 unfolding badIndex
 index-inside t i e =
-    let a = or-neither (eqb i 0 || ltb (usedAt t) i) (ltb (capacityOf t) i) e in
-    let b = or-neither (eqb i 0) (ltb (usedAt t) i) (a .0) in
+    let a = or-false (eqb i 0 || ltb (usedAt t) i) (ltb (capacityOf t) i) e in
+    let b = or-false (eqb i 0) (ltb (usedAt t) i) (a .0) in
     let n : i ≢ 0 = eqb-false i 0 (b .0) in
     inside t i (omega arith) (ltb-false (capacityOf t) i (a .1))
-  where
-    or-neither : (x y : Bool) → (x || y) ≡ false → (x ≡ false) × (y ≡ false)
-    or-neither true y h = clash refl h
-    or-neither false y h = (refl, h)

@@ -11,12 +11,14 @@ use Rattle.model.specs.Calls.{schemaLength, tableLength, marksNumber, marksCoun
 use Rattle.codec.specs.Bytes.{wordBytes, wordsOf}
 use Rattle.text.specs.Text.{refusedText, shownText}
 
+-- "N up to 300"
 abbrev pub mostListed : ℕ
 mostListed = 300
 
 abbrev pub mostWords : ℕ
 mostWords = schemaWords + headerWords + recordWords * mostListed
 
+-- "reads schema, then table"
 abbrev pub schemaIn : List ℕ → List ℕ
 schemaIn b = take schemaWords (wordsOf b)
 

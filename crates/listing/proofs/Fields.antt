@@ -12,7 +12,7 @@ use lib.ListN.{length, getD}
 use borrow.Author.Tests.{eqb-true, eqb-false, eq-eqb, ne-eqb, not-false}
 use Rattle.crdt.specs.Labels.{isLabel}
 use Rattle.crdt.specs.Cells.{Reg}
-use Rattle.crdt.proofs.Tests.{test, clash, and-left, and-right, or-cases}
+use Rattle.crdt.proofs.Tests.{test, clash, and-left, and-right, or-cases, or-false}
 use Rattle.model.specs.Layout.{relations, fieldCount, kindAt, maskAt}
 use Rattle.model.specs.Schemas.{Relation, noRelation, isReference, leadsTo, relationOf, schemaOf, relationNumbered}
 use Rattle.model.specs.Records.{Rec, place, relation}
@@ -25,10 +25,6 @@ use Rattle.encoded.proofs.Ranges.{listed-length, listed-at}
 use Rattle.decoded.proofs.Values.{kinds-of}
 
 -- tests that failed
-pub or-false : (x y : Bool) → (x || y) ≡ false → (x ≡ false) × (y ≡ false)
-or-false true y h = clash refl h
-or-false false y h = (refl, h)
-
 and-false : (x y : Bool) → (x && y) ≡ false → (x ≡ false) ⊎ (y ≡ false)
 and-false true y h = inr h
 and-false false y h = inl refl

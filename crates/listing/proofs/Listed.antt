@@ -8,7 +8,7 @@ use mathlib.Core.List.{List, [], _∷_, map, List·Memᴰ·head, List·Memᴰ·t
 use native.Mathlib.Omega.{arith}
 use lib.ListN.{length, getD, length-map}
 use borrow.Author.Tests.{eq-eqb, ne-eqb}
-use Rattle.crdt.proofs.Tests.{Tri, low, same, high, tri, test}
+use Rattle.crdt.proofs.Tests.{Tri, low, same, high, tri, test, or-false}
 use Rattle.model.specs.Layout.{fields, relations, fieldCount, kindAt, maskAt}
 use Rattle.model.specs.Schemas.{Relation, isReference, leadsTo, schemaOf, relationNumbered}
 use Rattle.model.specs.Records.{Rec, labelSpan, place, relation, label, inOrder, Rising}
@@ -24,7 +24,7 @@ use Rattle.laws.proofs.Drafts.{shown-in}
 use Rattle.laws.proofs.Fields.{label-below, place-relation, place-label}
 use Rattle.encoded.proofs.Follow.{noRec, has-at}
 use Rattle.listing.proofs.Rising.{rising-has}
-use Rattle.listing.proofs.Fields.{or-false, Split, split, leads-to, value-label, schema-length, kinds-length, kind-is, first-key, second-key}
+use Rattle.listing.proofs.Fields.{Split, split, leads-to, value-label, schema-length, kinds-length, kind-is, first-key, second-key}
 use Rattle.listing.proofs.Walk.{getD-in, table-valid, shown-rising, walk-lists, walk-ends, marks-count}
 
 -- entries by position

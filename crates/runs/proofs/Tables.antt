@@ -10,7 +10,7 @@ use lib.Dec.{eqb, leb, ltb}
 use lib.ListN.{length, getD, set, replicate}
 use borrow.Author.Tests.{ltb-true, ltb-false, le-ltb, lt-ltb, leb-true, eqb-true, not-false as unnot}
 use Rattle.crdt.specs.Labels.{largestCounter, isReplica}
-use Rattle.crdt.proofs.Tests.{test, clash, not-true, not-false, and-left, and-right, and-both, or-cases, or-left, or-right}
+use Rattle.crdt.proofs.Tests.{test, clash, not-true, not-false, and-left, and-right, and-both, or-cases, or-left, or-right, or-false}
 use Rattle.model.specs.Layout.{fields, headerWords, recordWords, mostRecords, capacityOf, replicaWord, relations, fieldCount, kindAt}
 use Rattle.model.specs.Lists.{all-of, listed, Check, check, lowest}
 use Rattle.model.specs.Schemas.{Relation, broken, noRelation, relationOf, schemaOf, relationNumbered}
@@ -49,10 +49,6 @@ good-table s t h =
 not-both : (x : Bool) → x ≡ true → not x ≡ false
 not-both true h = refl
 not-both false h = sym h
-
-or-false : (x y : Bool) → (x || y) ≡ false → x ≡ false
-or-false true y h = h
-or-false false y h = refl
 
 pub table-good : (s t : List ℕ) → Good s t → tableNumber s t ≡ 0
 unfolding tableNumber
@@ -193,7 +189,7 @@ pub edit-good : (index : Bool) (s t d : List ℕ) (e : Edit) → all-of numbered
 unfolding editNumber all-of
 edit-good index s t d e m h =
     let p = passed (check 1 (not (schemaLength s && tableLength t && deltaLength d) || index) ∷ check 2 (broken s) ∷ check 3 (not (wellFormed s t)) ∷ e .checks) m h in
-    let l = unnot (schemaLength s && tableLength t && deltaLength d) (or-false _ _ (p .0)) in
+    let l = unnot (schemaLength s && tableLength t && deltaLength d) (or-false _ _ (p .0) .0) in
     let l′ = and-left (schemaLength s && tableLength t) _ l in (
       record { lent = and-left (schemaLength s) _ l′; sized = and-right (schemaLength s) _ l′; sound = p .1 .0; formed = unnot (wellFormed s t) (p .1 .1 .0) },
       none-applies (e .checks) (p .1 .1 .1),

@@ -10,7 +10,7 @@ use native.Mathlib.Omega.{arith}
 use native.Mathlib.Numerals.{add-one}
 use lib.ListN.{getD, set}
 use borrow.Author.Tests.{eq-eqb}
-use Rattle.crdt.proofs.Tests.{Tri, low, same, high, tri, test, clash, and-left}
+use Rattle.crdt.proofs.Tests.{Tri, low, same, high, tri, test, clash, or-false, and-left}
 use Rattle.model.specs.Layout.{fields, usedAt}
 use Rattle.model.specs.Lists.{each}
 use Rattle.layout.proofs.Each.{each-more}
@@ -77,10 +77,6 @@ module _ (refs m : List ℕ) where
 
   pub any-done : (i n : ℕ) (x : Bool) → i ≡ n → x ≡ dropsAny refs m i → x ≡ dropsAny refs m n
   any-done i n x e f = rw e at f
-
-or-false : (x y : Bool) → (x || y) ≡ false → (x ≡ false) × (y ≡ false)
-or-false false y h = (refl, h)
-or-false true y h = clash refl h
 
 -- a round that drops nothing
 module _ (refs m : List ℕ) where

@@ -1,21 +1,14 @@
 -- A resolved reference compared first, and its kind then.
 -- Assumes nothing.
 use Prim.Native.Nat.{ℕ}
-use mathlib.Core.Path.{_≡_, refl, sym, _∙_, ap}
+use mathlib.Core.Path.{_≡_, sym, _∙_, ap}
 use mathlib.Core.Logic.{_≢_}
-use mathlib.Core.Bool.{Bool, true, false, _&&_}
+use mathlib.Core.Bool.{Bool, false, _&&_}
 use mathlib.Core.List.{List}
 use lib.Dec.{eqb}
 use borrow.Author.Tests.{eq-eqb, ne-eqb}
+use Rattle.crdt.proofs.Tests.{and-none, and-all}
 use Rattle.model.specs.Layout.{relationAt, kindAt}
-
-and-none : (b : Bool) → false ≡ (b && false)
-and-none true = refl
-and-none false = refl
-
-and-all : (b : Bool) → b ≡ (b && true)
-and-all true = refl
-and-all false = refl
 
 pub miss : (q : ℕ → Bool) (k x p : ℕ) → x ≢ p → false ≡ (q k && eqb x p)
 miss q k x p h = and-none (q k) ∙ ap (λ (b : Bool). q k && b) (sym (ne-eqb x p h))

@@ -57,12 +57,13 @@ valuesText [] vs = []
 valuesText (k ∷ ks) [] = []
 valuesText (k ∷ ks) (v ∷ vs) = (space ∷ valueText k v) ++ valuesText ks vs
 
--- "the relation, the label and the values"
+-- "the relation, the label and the values in decimal"
 unfoldable pub lineText : List ℕ → Entry → List ℕ
 lineText s e =
     (decimalText (e .relation) ++ (space ∷ labelText (e .label)))
     ++ (valuesText (listed (fieldCount s (e .relation)) (kindAt s (e .relation))) (e .values) ++ (newline ∷ []))
 
+-- "per record": a line for each entry of the list, in its order.
 unfoldable pub linesText : List ℕ → List Entry → List ℕ
 linesText s [] = []
 linesText s (e ∷ es) = lineText s e ++ linesText s es
@@ -79,8 +80,10 @@ shownWord = 115 ∷ 104 ∷ 111 ∷ 119 ∷ 110 ∷ 32 ∷ []
 abbrev pub refusedWord : List ℕ
 refusedWord = 114 ∷ 101 ∷ 102 ∷ 117 ∷ 115 ∷ 101 ∷ 100 ∷ 32 ∷ []
 
+-- "A refusal prints `refused` and the number"
 unfoldable pub refusedText : ℕ → List ℕ
 refusedText n = toldText refusedWord n
 
+-- "It prints `shown` and the count, then per record .."
 unfoldable pub shownText : List ℕ → ℕ → List Entry → List ℕ
 shownText s count es = toldText shownWord count ++ linesText s es

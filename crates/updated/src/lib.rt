@@ -110,16 +110,8 @@ pub fn judge_update(
     if layout::clock(table) == Label::LARGEST_COUNTER {
         return UpdateAnswer::ClockSpent;
     }
-    redoes::mark_update(
-        schema,
-        table,
-        refs,
-        i,
-        kind,
-        layout::value_at(table, i, f),
-        new,
-        redo,
-    );
+    let old = layout::value_at(table, i, f);
+    redoes::mark_update(schema, table, refs, i, kind, old, new, redo);
     if redoes::is_spent(schema, table, redo) {
         return UpdateAnswer::FlagSpent;
     }

@@ -6,7 +6,7 @@ use mathlib.Core.Bool.{Bool, true, false, cond, _||_, _&&_, not}
 use mathlib.Core.List.{List}
 use lib.Dec.{eqb, ltb}
 use borrow.Author.Tests.{ltb-false, not-false}
-use Rattle.crdt.proofs.Tests.{clash, and-left, and-right}
+use Rattle.crdt.proofs.Tests.{or-false, and-left, and-right}
 use Rattle.answers.specs.Told.{Told, told}
 use Rattle.model.specs.Layout.{capacityOf, usedAt}
 use Rattle.model.specs.Lists.{lowest}
@@ -16,10 +16,6 @@ use Rattle.model.specs.Tables.{decode}
 use Rattle.model.specs.WellFormed.{wellFormed}
 use Rattle.walk.specs.Sound.{Sound}
 use Rattle.model.specs.Calls.{schemaLength, tableLength, marksLength, marked, placeKey, walkNumber, walkGiven, walkPlace}
-
-or-false : (x y : Bool) → (x || y) ≡ false → (x ≡ false) × (y ≡ false)
-or-false false y h = (refl, h)
-or-false true y h = clash refl h
 
 module _ (s t m : List ℕ) (p : ℕ) where
   abbrev pub wrong : Bool

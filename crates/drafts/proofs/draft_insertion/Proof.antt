@@ -10,7 +10,7 @@ draft-records-requires : tie.Need-draft-records-requires
 draft-records-requires c κs = (source _ _ _ _ (c .before .before .before .before .before .before .pre .ready), insertion-edited _ _ _ _ _ _ (c .before .before .before .before .before .before .pre), c .before .before .before .before .before .before .pre .ready .delta)
 
 new-label-requires : tie.Need-new-label-requires
-new-label-requires c κs = (c .before .before .before .before .before .before .before .before .before .pre .clock, source _ _ _ _ (c .before .before .before .before .before .before .before .before .before .pre .ready) .replica)
+new-label-requires c κs = c .before .before .before .before .before .before .before .before .before .pre .clock
 
 find-requires : tie.Need-find-requires
 find-requires c κs = insertion-findable _ _ _ _ _ _ (c .before .before .before .before .before .before .before .before .before .before .before .pre) _ _ (c .before .before .before .before .draft-records .ensures) (c .before .new-label .ensures)

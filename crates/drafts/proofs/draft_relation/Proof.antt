@@ -9,7 +9,7 @@ draft-chain-requires : tie.Need-draft-chain-requires
 draft-chain-requires c κs = search needs
 
 new-label-requires : tie.Need-new-label-requires
-new-label-requires c κs = (new-clock _ _ (c .before .before .before .before .before .before .before .before .before .pre .0 .source) _ _ (c .before .before .before .before .before .before .before .before .before .pre .0 .edited) _ (c .before .before .before .before .before .before .before .before .before .pre .1) (c .before .if1 .taken), c .before .before .before .before .before .before .before .before .before .pre .0 .source .replica)
+new-label-requires c κs = new-clock _ _ (c .before .before .before .before .before .before .before .before .before .pre .0 .source) _ _ (c .before .before .before .before .before .before .before .before .before .pre .0 .edited) _ (c .before .before .before .before .before .before .before .before .before .pre .1) (c .before .if1 .taken)
 
 append-requires : tie.Need-append-requires
 append-requires c κs = (walk-room _ _ (c .before .before .before .before .before .before .before .before .before .before .pre .0 .source) _ _ (c .before .before .before .before .before .before .before .before .before .before .pre .0 .edited) _ _ (c .before .before .before .before .before .draft-chain .ensures), c .before .before .before .before .before .before .before .before .before .before .pre .1, c .before .before .before .before .before .before .before .before .before .before .pre .2)

@@ -23,7 +23,7 @@ sub-write-register : tie.Need-sub-write-register
 sub-write-register c = search needs
 
 new-label-requires : tie.Need-new-label-requires
-new-label-requires c κs = (c .before .before .before .before .before .before .before .before .before .before .before .before .before .pre .clock, source _ _ _ _ (c .before .before .before .before .before .before .before .before .before .before .before .before .before .pre .ready) .replica)
+new-label-requires c κs = c .before .before .before .before .before .before .before .before .before .before .before .before .before .pre .clock
 
 write-register-requires : tie.Need-write-register-requires
 write-register-requires c κs = (

@@ -1,7 +1,7 @@
 -- `drafts::new_label` meets its contract.
 -- Assumes nothing.
 use mathlib.Core.Path.{_∙_}
-use Rattle.drafts.proofs.Turns.{label-within}
+use Rattle.drafts.proofs.Turns.{label-now}
 use borrow.Author.Needs.{needs}
 use Rattle.drafts.proofs.new_label.Statement.{statement}
 use Rattle.drafts.proofs.new_label.Tie as tie
@@ -19,7 +19,7 @@ of-requires : tie.Need-of-requires
 of-requires c κs = search needs
 
 returns : tie.Need-returns
-returns c = c .of .ensures ∙ label-within _ _ _ (c .before .before .before .before .pre .0) (c .before .before .before .before .pre .1) (c .before .before .clock .ensures) (c .before .replica .ensures)
+returns c = c .of .ensures ∙ label-now _ _ _ (c .before .before .clock .ensures) (c .before .replica .ensures)
 
 pub new-label-spec : {M : Type 1} → statement M
 new-label-spec = tie.close (tie.spec clock-requires add-of replica-requires of-requires returns)
