@@ -10,11 +10,11 @@ ghost use Rattle.model.specs.Tables.{recordOf};
 ghost use Rattle.model.specs.Shown.{leads, standing, shown};
 ghost use Rattle.model.specs.Edits.{Edit, odd, updateRedoes, deletionRedoes};
 ghost use Rattle.model.specs.Calls.{insertionOf, insertionNumber, insertionLabel, insertionTable, insertionDelta, updateOf, updateNumber, updateTable, updateDelta, deletionOf, deletionNumber, deletionTable, deletionDelta};
-ghost use Rattle.resolved.specs.Order.{Checked};
-ghost use Rattle.resolved.specs.Resolved.{Resolves, Marked};
-ghost use Rattle.drafts.specs.Picked.{Picked};
-ghost use Rattle.judging.specs.Targets.{kindsOf, bare, held, Placed};
-ghost use Rattle.editing.specs.First.{firstNumber};
+ghost use Rattle.references.specs.Order.{Checked};
+ghost use Rattle.references.specs.Resolved.{Resolves, Marked};
+ghost use Rattle.edit_delta.specs.Picked.{Picked};
+ghost use Rattle.edit_basics.specs.Targets.{kindsOf, bare, held, Placed};
+ghost use Rattle.edit_laws.specs.First.{firstNumber};
 use answers::DeletionAnswer;
 use answers::InsertionAnswer;
 use answers::TableAnswer;
@@ -52,9 +52,9 @@ fn resolve_and_mark(
     ensures standing_marks { λ _. ⌜ Marked (now (table .entry)) (standing (schemaOf (now (schema .entry))) (held (now (table .entry)))) (now (stands .exit)) ⌝ }
     ensures shown_marks { λ _. ⌜ Marked (now (table .entry)) (shown (schemaOf (now (schema .entry))) (held (now (table .entry)))) (now (marks .exit)) ⌝ }
 {
-    resolved::resolve(schema, table, refs);
-    standing::stand(schema, table, refs, stands);
-    shown::show(schema, table, refs, stands, marks);
+    references::resolve(schema, table, refs);
+    list_standing::stand(schema, table, refs, stands);
+    list_shown::show(schema, table, refs, stands, marks);
 }
 
 // Checks 5 to 13 of an insertion into a judged table; the marks of the records to be redone, where none applies.
@@ -73,7 +73,7 @@ fn insertion_checks(
     let mut stands = [0u8; layout::MOST_RECORDS];
     let mut marks = [0u8; layout::MOST_RECORDS];
     resolve_and_mark(schema, table, &mut refs, &mut stands, &mut marks);
-    inserted::judge_insertion(schema, table, &stands, &marks, relation, values, redo)
+    edit_insertion::judge_insertion(schema, table, &stands, &marks, relation, values, redo)
 }
 
 // What an insertion answers, but for the new label; the marks of the records to be redone, where it is accepted.
@@ -115,8 +115,8 @@ pub fn insertion(
     if answer.number() != 0 {
         return answer;
     }
-    let label = drafts::new_label(own);
-    drafts::draft_insertion(schema, own, delta, relation, values, &redo);
+    let label = edit_delta::new_label(own);
+    edit_delta::draft_insertion(schema, own, delta, relation, values, &redo);
     merge::act(own, delta);
     InsertionAnswer::Inserted(label)
 }
@@ -138,7 +138,7 @@ fn update_checks(
     let mut stands = [0u8; layout::MOST_RECORDS];
     let mut marks = [0u8; layout::MOST_RECORDS];
     resolve_and_mark(schema, table, &mut refs, &mut stands, &mut marks);
-    updated::judge_update(
+    edit_update::judge_update(
         schema,
         table,
         &refs,
@@ -192,7 +192,7 @@ pub fn update(
     if answer.number() != 0 {
         return answer;
     }
-    drafts::draft_update(schema, own, delta, index, field, value, &redo);
+    edit_delta::draft_update(schema, own, delta, index, field, value, &redo);
     merge::act(own, delta);
     answer
 }
@@ -207,7 +207,7 @@ fn deletion_checks(schema: &[u64], table: &[u64], index: usize, redo: &mut [u8])
     let mut stands = [0u8; layout::MOST_RECORDS];
     let mut marks = [0u8; layout::MOST_RECORDS];
     resolve_and_mark(schema, table, &mut refs, &mut stands, &mut marks);
-    judged::judge_deletion(schema, table, &refs, &stands, &marks, index, redo)
+    edit_deletion::judge_deletion(schema, table, &refs, &stands, &marks, index, redo)
 }
 
 // What a deletion answers; the marks of the records to be redone, where it is accepted.
@@ -242,7 +242,7 @@ pub fn deletion(schema: &[u64], own: &mut [u64], delta: &mut [u64], index: usize
     if answer.number() != 0 {
         return answer;
     }
-    drafts::draft_deletion(schema, own, delta, index, &redo);
+    edit_delta::draft_deletion(schema, own, delta, index, &redo);
     merge::act(own, delta);
     answer
 }

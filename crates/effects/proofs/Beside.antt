@@ -21,9 +21,9 @@ use Rattle.laws.proofs.Lists.{_∈_, some-in, in-some}
 use Rattle.laws.proofs.Shown.{has-in, in-has}
 use Rattle.laws.proofs.Order.{isSome, has-at, at-order, order-rising}
 use Rattle.laws.proofs.Members.{at-member, at-key, rising-distinct}
-use Rattle.encoded.proofs.Ranges.{any-at}
-use Rattle.decoded.proofs.Ranges.{any-some}
-use Rattle.runs.proofs.Tables.{Good, good-valid}
+use Rattle.wellformed.proofs.Ranges.{any-at}
+use Rattle.wellformed.proofs.ListRanges.{any-some}
+use Rattle.convergence.proofs.Tables.{Good, good-valid}
 use Rattle.effects.specs.Effects.{keyAt, heldBeside}
 use Rattle.effects.proofs.Words.{record-is}
 use Rattle.effects.proofs.Changes.{member}

@@ -21,9 +21,9 @@ use Rattle.laws.proofs.Order.{at-order}
 use Rattle.laws.proofs.Members.{at-member}
 use Rattle.laws.proofs.Valid.{ValidRecord}
 use Rattle.laws.proofs.Fields.{label-within}
-use Rattle.encoded.proofs.Follow.{noRec, recordAt}
-use Rattle.decoded.proofs.Facts.{table-sized}
-use Rattle.runs.proofs.Tables.{Good, good-valid, Left}
+use Rattle.wellformed.proofs.Follow.{noRec, recordAt}
+use Rattle.wellformed.proofs.Facts.{table-sized}
+use Rattle.convergence.proofs.Tables.{Good, good-valid, Left}
 use Rattle.effects.specs.Effects.{keyAt, nextLabel, Redone, Named}
 use Rattle.effects.proofs.Joins.{regsIn, among, changed-flag, changed-regs}
 use Rattle.effects.proofs.Flags.{among-odd, not-spent, redone-law}

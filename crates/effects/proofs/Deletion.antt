@@ -26,7 +26,7 @@ use Rattle.laws.proofs.Members.{order-rising-same, rising-distinct}
 use Rattle.laws.proofs.Merge.{new}
 use Rattle.laws.proofs.Checks.{passed, numbered}
 use Rattle.laws.proofs.Drafts.{Drafted, shown-has, has-order, deletion-drafted}
-use Rattle.runs.proofs.Tables.{Good, good-valid, narrow, Left, edit-good, edit-left}
+use Rattle.convergence.proofs.Tables.{Good, good-valid, narrow, Left, edit-good, edit-left}
 use Rattle.effects.specs.Effects.{keyAt, heldBeside, Redone, Kept, deletionDue, Deleted}
 use Rattle.effects.proofs.Joins.{none-at, reg-none, regsIn, among}
 use Rattle.effects.proofs.Words.{used-is}

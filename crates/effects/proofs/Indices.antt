@@ -17,8 +17,8 @@ use Rattle.model.specs.Calls.{schemaLength, tableLength, deltaLength, badIndex,
 use Rattle.model.specs.Edits as edits
 use Rattle.laws.proofs.Valid.{true-distinct}
 use Rattle.laws.proofs.Checks.{numbered, passed}
-use Rattle.encoded.proofs.Follow.{recordAt, same-position}
-use Rattle.runs.proofs.Tables.{Good, good-valid}
+use Rattle.wellformed.proofs.Follow.{recordAt, same-position}
+use Rattle.convergence.proofs.Tables.{Good, good-valid}
 use Rattle.effects.specs.Effects.{keyAt}
 use Rattle.effects.proofs.Words.{used-is, record-is, reads}
 

@@ -30,10 +30,10 @@ use Rattle.laws.proofs.Merge.{new}
 use Rattle.laws.proofs.Checks.{passed, numbered}
 use Rattle.laws.proofs.Fields.{label-below, place-relation, place-label, new-label, new-counter, values-length, stampedBy}
 use Rattle.laws.proofs.Drafts.{Drafted, insertion-drafted}
-use Rattle.encoded.proofs.Ranges.{listed-length, listed-at}
-use Rattle.encoded.proofs.Follow.{recordAt}
-use Rattle.encoded.proofs.Formed.{schema-length}
-use Rattle.runs.proofs.Tables.{Good, good-valid, narrow, Left, edit-good, edit-left}
+use Rattle.wellformed.proofs.Ranges.{listed-length, listed-at}
+use Rattle.wellformed.proofs.Follow.{recordAt}
+use Rattle.wellformed.proofs.Formed.{schema-length}
+use Rattle.convergence.proofs.Tables.{Good, good-valid, narrow, Left, edit-good, edit-left}
 use Rattle.effects.specs.Effects.{keyAt, nextLabel, Redone, Kept, Fresh, insertionDue, Inserted}
 use Rattle.effects.proofs.Joins.{none-at, reg-none}
 use Rattle.effects.proofs.Words.{used-is, record-is, Reads, reads}

@@ -11,7 +11,7 @@ use Rattle.model.specs.Records.{inOrder}
 use Rattle.model.specs.Tables.{decode, recordOf}
 use Rattle.model.specs.Shown.{targets, references}
 use Rattle.model.specs.Edits.{odd, updateRedoes, deletionRedoes}
-use Rattle.runs.proofs.Tables.{Good}
+use Rattle.convergence.proofs.Tables.{Good}
 use Rattle.effects.specs.Effects.{keyAt, insertionDue, updateDue, deletionDue}
 use Rattle.effects.proofs.Joins.{among}
 use Rattle.effects.proofs.Flags.{among-odd}

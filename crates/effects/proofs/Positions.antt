@@ -22,7 +22,7 @@ use Rattle.laws.proofs.Shown.{in-has}
 use Rattle.laws.proofs.Members.{absent}
 use Rattle.laws.proofs.Merge.{new}
 use Rattle.laws.proofs.Drafts.{has-order}
-use Rattle.encoded.proofs.Follow.{noRec, recordAt}
+use Rattle.wellformed.proofs.Follow.{noRec, recordAt}
 use Rattle.effects.proofs.Joins.{among}
 use Rattle.effects.proofs.Flags.{among-odd}
 

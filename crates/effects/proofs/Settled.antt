@@ -15,10 +15,10 @@ use Rattle.model.specs.Layout.{fields, fieldCount, capacityOf, replicaAt, clock
 use Rattle.model.specs.Lists.{listed}
 use Rattle.model.specs.Tables.{decode, recordOf, encode}
 use Rattle.model.specs.Calls.{tableNumber, insertionNumber, insertionLabel, insertionTable, updateNumber, updateTable, deletionNumber, deletionTable}
-use Rattle.encoded.proofs.Ranges.{listed-length, listed-at, listed-is}
-use Rattle.encoded.proofs.Follow.{noRec}
-use Rattle.runs.proofs.Tables.{Good, good-table, table-good, good-encoded}
-use Rattle.runs.proofs.Edits.{insertion-edited, update-edited, deletion-edited}
+use Rattle.wellformed.proofs.Ranges.{listed-length, listed-at, listed-is}
+use Rattle.wellformed.proofs.Follow.{noRec}
+use Rattle.convergence.proofs.Tables.{Good, good-table, table-good, good-encoded}
+use Rattle.convergence.proofs.Edits.{insertion-edited, update-edited, deletion-edited}
 use Rattle.effects.specs.Effects.{keyAt, Redone, Kept, Fresh, insertionDue, Inserted, updateDue, Updated, deletionDue, Deleted}
 use Rattle.effects.proofs.Insertion.{insertion-effect}
 use Rattle.effects.proofs.Update.{update-effect}

@@ -29,9 +29,9 @@ use Rattle.laws.proofs.Members.{order-rising-same}
 use Rattle.laws.proofs.Merge.{new as fresh}
 use Rattle.laws.proofs.Checks.{passed, numbered}
 use Rattle.laws.proofs.Drafts.{Drafted, shown-has, has-order, update-drafted}
-use Rattle.decoded.proofs.Facts.{formed, ruled, counter-field}
-use Rattle.listing.proofs.Fields.{kinds-length, kind-is}
-use Rattle.runs.proofs.Tables.{Good, good-valid, narrow, Left, edit-good, edit-left}
+use Rattle.wellformed.proofs.Facts.{formed, ruled, counter-field}
+use Rattle.convergence.proofs.Fields.{kinds-length, kind-is}
+use Rattle.convergence.proofs.Tables.{Good, good-valid, narrow, Left, edit-good, edit-left}
 use Rattle.effects.specs.Effects.{keyAt, nextLabel, heldBeside, Redone, leadsAt, updateDue, Updated}
 use Rattle.effects.proofs.Joins.{none-at, reg-none, newer, regsIn, among}
 use Rattle.effects.proofs.Words.{used-is, record-is, Reads, reads}

@@ -8,11 +8,11 @@ use Rattle.crdt.specs.Cells.{Reg, reg, noReg}
 use Rattle.model.specs.Layout.{fields, usedAt, relationAt, labelAt, flagAt, valueAt, stampAt}
 use Rattle.model.specs.Records.{Rec, place, relation, label}
 use Rattle.model.specs.Tables.{recordOf, decode}
-use Rattle.encoded.proofs.Ranges.{listed-length, listed-at}
-use Rattle.encoded.proofs.Follow.{noRec, recordAt}
-use Rattle.decoded.proofs.Facts.{schema-sound, formed}
-use Rattle.decoded.proofs.Values.{relation-is, label-is}
-use Rattle.runs.proofs.Tables.{Good}
+use Rattle.wellformed.proofs.Ranges.{listed-length, listed-at}
+use Rattle.wellformed.proofs.Follow.{noRec, recordAt}
+use Rattle.wellformed.proofs.Facts.{schema-sound, formed}
+use Rattle.wellformed.proofs.Values.{relation-is, label-is}
+use Rattle.convergence.proofs.Tables.{Good}
 
 pub used-is : (t : List ℕ) → usedAt t ≡ length (decode t .records)
 unfolding decode

@@ -95,7 +95,7 @@ pub extern "C" fn herd_marks(
     ensures count { λ _. ⌜ now (shown .exit) ≡ marksCount (now (schema .entry)) (now (table .entry)) (now (marks .entry)) ⌝ }
     ensures bytes { λ _. ⌜ now (marks .exit) ≡ marksMarks (now (schema .entry)) (now (table .entry)) (now (marks .entry)) ⌝ }
 {
-    let answer = shown::marks(schema, table, marks);
+    let answer = list_shown::marks(schema, table, marks);
     *shown = answer.count() as u64;
     answer.number()
 }
@@ -113,7 +113,7 @@ pub extern "C" fn herd_walk(
     ensures index { λ _. ⌜ now (given .exit) ≡ walkGiven (now (schema .entry)) (now (table .entry)) (now (marks .entry)) (now (place .entry)) ⌝ }
     ensures moved { λ _. ⌜ now (place .exit) ≡ walkPlace (now (schema .entry)) (now (table .entry)) (now (marks .entry)) (now (place .entry)) ⌝ }
 {
-    let m = walk::advance(schema, table, marks, *place as usize);
+    let m = list_walk::advance(schema, table, marks, *place as usize);
     let answer = m.answer;
     *place = m.index as u64;
     *given = answer.index() as u64;

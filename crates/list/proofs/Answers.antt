@@ -15,11 +15,11 @@ use Rattle.model.specs.Schemas.{broken}
 use Rattle.model.specs.WellFormed.{wellFormed}
 use Rattle.model.specs.Calls.{schemaLength, tableLength, marksLength, marksNumber, marksCount, marksMarks, Entry, entryAt, walked, tableWalked, shownList}
 use Rattle.laws.proofs.Checks.{passed}
-use Rattle.decoded.proofs.Facts.{formed, table-sized}
-use Rattle.text.specs.Text.{refusedText, shownText}
+use Rattle.wellformed.proofs.Facts.{formed, table-sized}
+use Rattle.list_text.specs.Text.{refusedText, shownText}
 use Rattle.list.specs.Program.{answerText}
-use Rattle.text.specs.Placed.{Placed}
-use Rattle.text.proofs.Laying.{as-text}
+use Rattle.list_text.specs.Placed.{Placed}
+use Rattle.list_text.proofs.Laying.{as-text}
 
 -- What answer 0 of the marks says.
 pub record Judged (s t : List ℕ) : Type 0 where

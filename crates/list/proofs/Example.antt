@@ -14,7 +14,7 @@ use Rattle.model.specs.Shown.{described, stamped, complete, leads, targets, ref
 use Rattle.model.specs.Calls.{schemaLength, tableLength, marksLength, marksOf, marksNumber, marksCount, marksMarks, marked, placeKey, walkNumber, walkGiven, entryAt, walked, tableWalked, shownList}
 use Rattle.model.specs.Cases.{pad, herd, header, row}
 use Rattle.model.specs.Edits.{recordAt}
-use Rattle.text.specs.Text.{decimalText, digits, labelText, referenceText, valueText, valuesText, lineText, linesText, toldText, refusedText, shownText}
+use Rattle.list_text.specs.Text.{decimalText, digits, labelText, referenceText, valueText, valuesText, lineText, linesText, toldText, refusedText, shownText}
 use Rattle.list.specs.Program.{answerText}
 use Rattle.list.specs.Example.{exampleTable, exampleText}
 

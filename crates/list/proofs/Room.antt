@@ -15,12 +15,12 @@ use Rattle.model.specs.Layout.{fields, mostRelations, blockWords, schemaWords, 
 use Rattle.model.specs.Lists.{listed}
 use Rattle.model.specs.Schemas.{isReference, blockRule, emptyBlock, broken}
 use Rattle.model.specs.Calls.{schemaLength, marksNumber, marksCount, marksMarks, walkGiven, Walked, walked, entryAt, tableWalked, shownList}
-use Rattle.encoded.proofs.Ranges.{each-at, listed-length}
-use Rattle.decoded.proofs.Facts.{schema-sound, formed}
-use Rattle.text.specs.Text.{space, newline, dot, digit, digits, decimalText, labelText, referenceText, valueText, valuesText, lineText, linesText, toldText, refusedWord, refusedText, shownWord, shownText}
+use Rattle.wellformed.proofs.Ranges.{each-at, listed-length}
+use Rattle.wellformed.proofs.Facts.{schema-sound, formed}
+use Rattle.list_text.specs.Text.{space, newline, dot, digit, digits, decimalText, labelText, referenceText, valueText, valuesText, lineText, linesText, toldText, refusedWord, refusedText, shownWord, shownText}
 use Rattle.list.specs.Program.{mostListed, schemaIn, tableIn, isWhole, answerText, listText, lineBytes, mostText}
-use Rattle.text.specs.Placed.{Placed}
-use Rattle.text.proofs.Laying.{laid-length, whole}
+use Rattle.list_text.specs.Placed.{Placed}
+use Rattle.list_text.proofs.Laying.{laid-length, whole}
 use Rattle.list.proofs.Answers.{Judged, judged}
 use Rattle.list.proofs.Whole.{whole-capacity}
 

@@ -14,11 +14,11 @@ use Rattle.crdt.proofs.Tests.{test, clash, and-left, and-right, and-both}
 use Rattle.model.specs.Layout.{schemaWords, headerWords, recordWords, mostRecords, capacityOf}
 use Rattle.model.specs.Calls.{schemaLength, tableLength, marksLength}
 use Rattle.codec.specs.Bytes.{wordBytes, wordsOf}
-use Rattle.text.specs.Text.{refusedText}
+use Rattle.list_text.specs.Text.{refusedText}
 use Rattle.list.specs.Program.{mostListed, mostWords, schemaIn, tableIn, isWhole, answerText, listText}
-use Rattle.text.specs.Placed.{Placed}
+use Rattle.list_text.specs.Placed.{Placed}
 use Rattle.codec.proofs.Words.{words-length}
-use Rattle.text.proofs.Laying.{as-text}
+use Rattle.list_text.proofs.Laying.{as-text}
 
 -- two tests that imply each other
 same-test : (x y : Bool) → (x ≡ true → y ≡ true) → (y ≡ true → x ≡ true) → x ≡ y

@@ -6,10 +6,10 @@ use mathlib.Core.Bool.{Bool, cond, _&&_}
 use mathlib.Core.List.{List}
 use lib.Dec.{eqb, leb}
 use lib.ListN.{length, take, drop, replicate}
-use Rattle.model.specs.Layout.{schemaWords, headerWords, recordWords, capacityOf}
+use Rattle.model.specs.Layout.{fields, schemaWords, headerWords, recordWords, capacityOf}
 use Rattle.model.specs.Calls.{schemaLength, tableLength, marksNumber, marksCount, shownList}
 use Rattle.codec.specs.Bytes.{wordBytes, wordsOf}
-use Rattle.text.specs.Text.{refusedText, shownText}
+use Rattle.list_text.specs.Text.{refusedText, shownText}
 
 -- "N up to 300"
 abbrev pub mostListed : ℕ
@@ -40,9 +40,10 @@ answerText s t =
 unfoldable pub listText : List ℕ → List ℕ
 listText b = cond (isWhole b) (answerText (schemaIn b) (tableIn b)) (refusedText 1)
 
--- A line has at most 400 characters, and a text a line for each record that the walk gives and one before them.
+-- A line has at most 50 characters for each field, its beginning counted in, and a text has a line for each record that the walk gives and one before
+-- them.
 abbrev pub lineBytes : ℕ
-lineBytes = 400
+lineBytes = 50 * fields
 
 abbrev pub mostText : ℕ
 mostText = lineBytes * (mostListed + 2)

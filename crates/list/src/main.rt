@@ -6,7 +6,7 @@ ghost use lib.ListN.{length, take, drop};
 ghost use Rattle.model.specs.Layout.{schemaWords, headerWords, capacityOf};
 ghost use Rattle.model.specs.Calls.{marksLength};
 ghost use Rattle.list.specs.Program.{mostListed, mostWords, mostText, isWhole, answerText, listText};
-ghost use Rattle.text.specs.Placed.{Placed};
+ghost use Rattle.list_text.specs.Placed.{Placed};
 use libc::STDOUT_FILENO;
 
 // The largest N that the program takes.
@@ -19,8 +19,10 @@ const MOST_WORDS: usize = layout::SCHEMA_WORDS
 // One byte more than the longest input, so that a longer one is told apart.
 const INPUT_BYTES: usize = codec::WORD_BYTES * MOST_WORDS + 1;
 
-// A line has at most 400 characters, and there are at most N + 2 of them.
-const TEXT_BYTES: usize = 400 * (MOST_RECORDS + 2);
+// A line has at most 50 characters for each field, its beginning counted in, and there are at most N + 2 lines.
+const LINE_BYTES: usize = 50 * layout::FIELDS;
+
+const TEXT_BYTES: usize = LINE_BYTES * (MOST_RECORDS + 2);
 
 fn main() {
     let mut input = [0u8; INPUT_BYTES];
@@ -78,7 +80,7 @@ fn write(input: &[u8], words: &mut [u64], marks: &mut [u8], out: &mut [u8]) -> u
     ensures { λ r. ⌜ Placed (now (out .entry)) 0 (listText (now (input .entry))) r (now (out .exit)) ⌝ }
 {
     if !is_whole(input) {
-        return text::refused(1, out);
+        return list_text::refused(1, out);
     }
     let count = codec::load(input, words);
     split(&words[0..count], marks, out)
@@ -104,10 +106,10 @@ fn list(schema: &[u64], table: &[u64], marks: &mut [u8], out: &mut [u8]) -> usiz
     requires { ⌜ marksLength (now table) (now marks) ≡ true ⌝ }
     ensures { λ r. ⌜ Placed (now (out .entry)) 0 (answerText (now (schema .entry)) (now (table .entry))) r (now (out .exit)) ⌝ }
 {
-    let answer = shown::marks(schema, table, marks);
+    let answer = list_shown::marks(schema, table, marks);
     let number = answer.number();
     if number != 0 {
-        return text::refused(number, out);
+        return list_text::refused(number, out);
     }
-    text::shown(schema, table, marks, answer.count(), out)
+    list_text::shown(schema, table, marks, answer.count(), out)
 }

@@ -18,9 +18,9 @@ use Rattle.model.specs.WellFormed.{wellFormed}
 use Rattle.model.specs.Merge.{mergedRecords, merged, tooMany}
 use Rattle.model.specs.Calls.{schemaLength, tableLength, mergeNumber, mergeTable}
 use Rattle.laws.proofs.Checks.{passed}
-use Rattle.absorbed.specs.Absorb.{held, Whole, Mergeable}
-use Rattle.absorbed.proofs.Chain.{merged-missing, missing-within}
-use Rattle.absorbed.proofs.Wholes.{formed-whole, formed-mergeable}
+use Rattle.merge_laws.specs.Absorb.{held, Whole, Mergeable}
+use Rattle.merge_laws.proofs.Chain.{merged-missing, missing-within}
+use Rattle.merge_laws.proofs.Wholes.{formed-whole, formed-mergeable}
 use Rattle.model.specs.Records.{place}
 use Rattle.answers.specs.Told.{Told, told}
 

@@ -14,10 +14,10 @@ use Rattle.model.specs.Layout.{fields, mostRelations, mostRecords, headWords, u
 use Rattle.model.specs.Records.{place, position}
 use Rattle.model.specs.Tables.{Table, decode, encode, encodeHeader}
 use Rattle.model.specs.Merge.{mergedRecords, merged}
-use Rattle.absorbed.specs.Absorb.{nth, held, withRecords, withClock, spaced, absorb, ahead, missing, Open, Takeable, Chained, Taken, Whole, Linked, precedes, meets, Sought, Seekable, Mergeable, added, fieldJoined, fieldsJoined, flagJoined, recordJoined}
-use Rattle.absorbed.proofs.Walk.{link-on, ahead-less, used-is}
-use Rattle.absorbed.proofs.Take.{take-open, take-bounds, take-done}
-use Rattle.absorbed.proofs.Chain.{Along, along-end, along-seek, along-take, along-on, going-linked, Counting, count-end, count-seek, count-on, count-linked, taken-all, merged-missing, missing-none}
+use Rattle.merge_laws.specs.Absorb.{nth, held, withRecords, withClock, spaced, absorb, ahead, missing, Open, Takeable, Chained, Taken, Whole, Linked, precedes, meets, Sought, Seekable, Mergeable, added, fieldJoined, fieldsJoined, flagJoined, recordJoined}
+use Rattle.merge_laws.proofs.Walk.{link-on, ahead-less, used-is}
+use Rattle.merge_laws.proofs.Take.{take-open, take-bounds, take-done}
+use Rattle.merge_laws.proofs.Chain.{Along, along-end, along-seek, along-take, along-on, going-linked, Counting, count-end, count-seek, count-on, count-linked, taken-all, merged-missing, missing-none}
 
 module _ (t : List ℕ) (link label i x : ℕ) where
   pub precedes-is : i ≡ word t link → x ≡ labelAt t i → (ltb 0 i && ltb x label) ≡ precedes t link label

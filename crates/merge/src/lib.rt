@@ -11,7 +11,7 @@ ghost use Rattle.model.specs.Tables.{decode, encode};
 ghost use Rattle.model.specs.Merge.{mergedRecords, merged, tooMany};
 ghost use Rattle.model.specs.Calls.{mergeNumber, mergeTable};
 ghost use Rattle.answers.specs.Told.{told, mergeTold};
-ghost use Rattle.absorbed.specs.Absorb.{nth, held, withRecords, spaced, absorb, missing, Whole, Linked, precedes, meets, Sought, Seekable, Open, Takeable, Chained, Taken, Mergeable, added, fieldJoined, fieldsJoined, flagJoined, recordJoined};
+ghost use Rattle.merge_laws.specs.Absorb.{nth, held, withRecords, spaced, absorb, missing, Whole, Linked, precedes, meets, Sought, Seekable, Open, Takeable, Chained, Taken, Mergeable, added, fieldJoined, fieldsJoined, flagJoined, recordJoined};
 use answers::MergeAnswer;
 
 // Whether the record that word `link` leads to has a label below `label`.

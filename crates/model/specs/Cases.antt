@@ -7,7 +7,7 @@ use lib.Dec.{eqb}
 use lib.ListN.{length, replicate}
 use Rattle.crdt.specs.Labels.{labelOf}
 use Rattle.crdt.specs.Cells.{Reg, reg, joinReg, joinCell}
-use Rattle.model.specs.Layout.{fields, mostRelations, blockWords, deltaWords, capacityOf}
+use Rattle.model.specs.Layout.{fields, mostRelations, blockWords, deltaWords, zeroWords, capacityOf}
 use Rattle.model.specs.Lists.{all-of}
 use Rattle.model.specs.Calls.{schemaNumber, tableNumber, marksNumber, marksCount, marksMarks, Entry, shownList, deletionNumber, deletionTable, deletionDelta}
 
@@ -16,19 +16,19 @@ unfoldable pub pad : ℕ → List ℕ → List ℕ
 pad n l = l ++ replicate (n - length l) 0
 
 -- A block of a schema: the kinds and the first key mask.
-relation : List ℕ → ℕ → List ℕ
+unfoldable pub blockOf : List ℕ → ℕ → List ℕ
 unfolding pad
-relation kinds key = length kinds ∷ (pad fields kinds ++ (key ∷ 0 ∷ 0 ∷ []))
+blockOf kinds key = length kinds ∷ (pad fields kinds ++ (key ∷ 0 ∷ 0 ∷ []))
 
 -- "Schema: 1 group (name; key name), 2 cow (tag, group by abort; key tag), 3 milking (cow by propagation, grams)."
 unfoldable pub herd : List ℕ
-unfolding pad relation
-herd = 3 ∷ (relation (1 ∷ []) 1 ++ (relation (1 ∷ 17 ∷ []) 1 ++ (relation (34 ∷ 1 ∷ []) 0 ++ replicate ((mostRelations - 3) * blockWords) 0)))
+unfolding pad blockOf
+herd = 3 ∷ (blockOf (1 ∷ []) 1 ++ (blockOf (1 ∷ 17 ∷ []) 1 ++ (blockOf (34 ∷ 1 ∷ []) 0 ++ replicate ((mostRelations - 3) * blockWords) 0)))
 
 -- A table's header of replica 1: clock, used, and the first records of relations 1, 2, 3.
 unfoldable pub header : ℕ → ℕ → List ℕ → List ℕ
 unfolding pad
-header clock used firsts = 1 ∷ clock ∷ used ∷ 0 ∷ (pad mostRelations firsts ++ replicate 4 0)
+header clock used firsts = 1 ∷ clock ∷ used ∷ 0 ∷ (pad mostRelations firsts ++ replicate zeroWords 0)
 
 -- A record's words: next, relation, label, flag, then values and stamps.
 unfoldable pub row : ℕ → ℕ → ℕ → ℕ → List ℕ → List ℕ → List ℕ

@@ -1,6 +1,6 @@
 -- An example run (document 01, "Runs"), as data: calls on four tables, the answer of each, and what the tables then hold and show.
 -- Assumes nothing.
-use Prim.Native.Nat.{ℕ, _+_, _*_}
+use Prim.Native.Nat.{ℕ, _+_, _*_, _-_}
 use mathlib.Core.Bool.{Bool, true, false, cond, _&&_, _||_, not}
 use mathlib.Core.List.{List, [], _∷_, _++_, map}
 use mathlib.Core.Option.{Option, none, some}
@@ -8,13 +8,13 @@ use lib.Dec.{eqb, leb}
 use lib.ListN.{length, replicate}
 use Rattle.crdt.specs.Labels.{largestCounter, labelOf}
 use Rattle.crdt.specs.Cells.{Reg, Cell}
-use Rattle.model.specs.Layout.{headerWords, recordWords, deltaWords, usedAt}
+use Rattle.model.specs.Layout.{mostRelations, blockWords, headerWords, zeroWords, recordWords, deltaWords, usedAt}
 use Rattle.model.specs.Lists.{some-of, all-of}
 use Rattle.model.specs.Records.{Rec, inOrder}
 use Rattle.model.specs.Tables.{decode, Contents, contents}
 use Rattle.model.specs.Calls.{tableNumber, startNumber, mergeNumber, insertionNumber, updateNumber, deletionNumber, Entry, shownList}
 use Rattle.model.specs.Runs.{Source, copy, delta, words, Call, start, merge, insertion, update, deletion, Moment, ago, otherWords, next, history, begun}
-use Rattle.model.specs.Cases.{herd, header, row, sameWords, sameEntries}
+use Rattle.model.specs.Cases.{pad, blockOf, herd, header, row, sameWords, sameEntries}
 
 -- The answer of a call.
 unfoldable pub answerOf : Moment → List Moment → Call → ℕ
@@ -50,7 +50,8 @@ buffer = replicate deltaWords 0
 
 -- A schema that isn't broken and has one relation only.
 unfoldable pub other : List ℕ
-other = 1 ∷ 1 ∷ 1 ∷ (replicate 7 0 ++ (1 ∷ replicate 86 0))
+unfolding pad blockOf
+other = 1 ∷ (blockOf (1 ∷ []) 1 ++ replicate ((mostRelations - 1) * blockWords) 0)
 
 -- The group 1.1, the cow 2.2 with tag 40, the cow 3.2 with tag 41.
 abbrev group : ℕ
@@ -172,20 +173,21 @@ herdGroup = labelOf 2 2
 
 -- Table 1 keeps its cow at position 1 and links by label; table 2 has its records added in list order.
 unfoldable pub crosses : Bool
-unfolding header row
+unfolding pad header row
 crosses =
     let m = ago first (history first crossing) 0 in
     sameWords (answers first crossing) (0 ∷ 0 ∷ 0 ∷ 0 ∷ 0 ∷ [])
     && sameWords (m .fleet 1)
-    (2 ∷ 2 ∷ 3 ∷ 0 ∷ 3 ∷ 2 ∷ (replicate 10 0
-    ++ (row 0 2 late 0 (40 ∷ 0 ∷ []) (late ∷ late ∷ []) ++ (row 1 2 early 0 (41 ∷ 0 ∷ []) (early ∷ early ∷ []) ++ (row 0 1 herdGroup 0 (12 ∷ []) (herdGroup ∷ []) ++ replicate recordWords 0)))))
+    (2 ∷ 2 ∷ 3 ∷ 0 ∷ (pad mostRelations (3 ∷ 2 ∷ []) ++ (replicate zeroWords 0
+    ++ (row 0 2 late 0 (40 ∷ 0 ∷ []) (late ∷ late ∷ []) ++ (row 1 2 early 0 (41 ∷ 0 ∷ []) (early ∷ early ∷ []) ++ (row 0 1 herdGroup 0 (12 ∷ []) (herdGroup ∷ []) ++ replicate recordWords 0))))))
     && sameWords (m .fleet 2)
     (header 2 3 (1 ∷ 2 ∷ [])
     ++ (row 0 1 herdGroup 0 (12 ∷ []) (herdGroup ∷ []) ++ (row 3 2 early 0 (41 ∷ 0 ∷ []) (early ∷ early ∷ []) ++ row 0 2 late 0 (40 ∷ 0 ∷ []) (late ∷ late ∷ []))))
 
 -- A chain of abort references, for which step 2 takes two hops: relation 1 references itself by abort, and only the first of three records is even.
 unfoldable pub chainSchema : List ℕ
-chainSchema = 1 ∷ 1 ∷ 17 ∷ replicate 94 0
+unfolding pad blockOf
+chainSchema = 1 ∷ (blockOf (17 ∷ []) 0 ++ replicate ((mostRelations - 1) * blockWords) 0)
 
 unfoldable pub hops : Bool
 unfolding header row

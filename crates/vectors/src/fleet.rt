@@ -2,7 +2,7 @@
 use crate::stream;
 use answers::InsertionAnswer;
 use answers::MarksAnswer;
-use walk::Moved;
+use list_walk::Moved;
 ghost use Prim.Native.Nat.{_≤_};
 
 // What a fleet holds, in one buffer: the lengths of the slots, of the schema and of the marks, then the slots, the schema and
@@ -227,7 +227,7 @@ pub fn marks(fleet: &mut [u64], schema: &mut [u64], own: &mut [u64], slot: u64) 
 }
 
 fn marks_in(fleet: &mut [u64], schema: &[u64], own: &[u64], bytes: &mut [u8]) -> MarksAnswer {
-    let got = shown::marks(schema, own, bytes);
+    let got = list_shown::marks(schema, own, bytes);
     keep_marks(fleet, bytes);
     got
 }
@@ -275,5 +275,5 @@ pub fn walk(fleet: &[u64], schema: &mut [u64], own: &mut [u64], slot: u64, place
 
 fn walk_in(fleet: &[u64], schema: &[u64], own: &[u64], bytes: &mut [u8], place: u64) -> Moved {
     fetch_marks(fleet, bytes);
-    walk::advance(schema, own, bytes, place as usize)
+    list_walk::advance(schema, own, bytes, place as usize)
 }

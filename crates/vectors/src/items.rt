@@ -9,7 +9,7 @@ use answers::InsertionAnswer;
 use answers::MarksAnswer;
 use crdt::Label;
 use crdt::Register;
-use walk::Moved;
+use list_walk::Moved;
 
 // What an item came to: the told answer, whether everything is as told, and the cursor's fields
 // after the item.
@@ -306,7 +306,7 @@ fn marks(s: &[u8], taken: Inputs, schema: &[u64], own: &[u64], third: &mut [u64]
 
 fn marks_in(schema: &[u64], own: &[u64], third: &mut [u64], bytes: &mut [u8]) -> MarksAnswer {
     stream::to_bytes(third, bytes);
-    let got = shown::marks(schema, own, bytes);
+    let got = list_shown::marks(schema, own, bytes);
     stream::to_words(bytes, third);
     got
 }
@@ -335,7 +335,7 @@ fn walk(s: &[u8], taken: Inputs, schema: &[u64], own: &[u64], third: &[u64]) -> 
 
 fn walk_in(schema: &[u64], own: &[u64], third: &[u64], bytes: &mut [u8], place: u64) -> Moved {
     stream::to_bytes(third, bytes);
-    walk::advance(schema, own, bytes, place as usize)
+    list_walk::advance(schema, own, bytes, place as usize)
 }
 
 fn insertion(

@@ -1,8 +1,8 @@
 -- `edits::deletion` meets its contract. A refusal keeps the words; answer 0 says all that the draft and the merge need.
 -- Assumes nothing.
 use Rattle.model.specs.Layout.{mostRecords}
-use Rattle.editing.proofs.Room.{zeros-long, array-long}
-use Rattle.editing.proofs.Deletion.{deletion-accepted, deletion-kept, deletion-ready, deletion-mergeable, deletion-written, deletion-done}
+use Rattle.edit_laws.proofs.Room.{zeros-long, array-long}
+use Rattle.edit_laws.proofs.AcceptedDeletion.{deletion-accepted, deletion-kept, deletion-ready, deletion-mergeable, deletion-written, deletion-done}
 use borrow.Author.Needs.{needs}
 use Rattle.edits.proofs.deletion.Statement.{statement}
 use Rattle.edits.proofs.deletion.Tie as tie

@@ -1,6 +1,6 @@
 -- `edits::first_checks` meets its contract. Each answer is the lowest check that applies.
 -- Assumes nothing.
-use Rattle.editing.proofs.First.{first-length, first-schema, first-lengths, first-table, first-good}
+use Rattle.edit_laws.proofs.First.{first-length, first-schema, first-lengths, first-table, first-good}
 use borrow.Author.Needs.{needs}
 use Rattle.edits.proofs.first_checks.Statement.{statement}
 use Rattle.edits.proofs.first_checks.Tie as tie

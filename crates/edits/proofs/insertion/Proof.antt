@@ -1,8 +1,8 @@
 -- `edits::insertion` meets its contract. A refusal keeps the words; answer 0 says all that the label, the draft and the merge need.
 -- Assumes nothing.
 use Rattle.model.specs.Layout.{mostRecords}
-use Rattle.editing.proofs.Room.{zeros-long, array-long}
-use Rattle.editing.proofs.Insertion.{insertion-accepted, insertion-unlabelled, insertion-kept, insertion-clock, insertion-told, insertion-ready, insertion-mergeable, insertion-written, insertion-done}
+use Rattle.edit_laws.proofs.Room.{zeros-long, array-long}
+use Rattle.edit_laws.proofs.AcceptedInsertion.{insertion-accepted, insertion-unlabelled, insertion-kept, insertion-clock, insertion-told, insertion-ready, insertion-mergeable, insertion-written, insertion-done}
 use borrow.Author.Needs.{needs}
 use Rattle.edits.proofs.insertion.Statement.{statement}
 use Rattle.edits.proofs.insertion.Tie as tie

@@ -3,7 +3,7 @@
 use mathlib.Core.Path.{ap, sym, _∙_}
 use native.Mathlib.Omega.{arith}
 use Rattle.answers.specs.Told.{tableTold}
-use Rattle.editing.proofs.Insertion.{insertion-refused, insertion-judged, told-checked}
+use Rattle.edit_laws.proofs.AcceptedInsertion.{insertion-refused, insertion-judged, told-checked}
 use borrow.Author.Needs.{needs}
 use Rattle.edits.proofs.judge_insertion.Statement.{statement}
 use Rattle.edits.proofs.judge_insertion.Tie as tie

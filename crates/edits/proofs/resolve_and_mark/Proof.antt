@@ -1,7 +1,7 @@
 -- `edits::resolve_and_mark` meets its contract.
 -- Assumes nothing.
 use native.Mathlib.Omega.{arith}
-use Rattle.resolved.proofs.Places.{used-most}
+use Rattle.references.proofs.Places.{used-most}
 use borrow.Author.Needs.{needs}
 use Rattle.edits.proofs.resolve_and_mark.Statement.{statement}
 use Rattle.edits.proofs.resolve_and_mark.Tie as tie

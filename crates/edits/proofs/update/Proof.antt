@@ -1,8 +1,8 @@
 -- `edits::update` meets its contract. A refusal keeps the words; answer 0 says all that the draft and the merge need.
 -- Assumes nothing.
 use Rattle.model.specs.Layout.{mostRecords}
-use Rattle.editing.proofs.Room.{zeros-long, array-long}
-use Rattle.editing.proofs.Update.{update-accepted, update-kept, update-ready, update-mergeable, update-written, update-done}
+use Rattle.edit_laws.proofs.Room.{zeros-long, array-long}
+use Rattle.edit_laws.proofs.AcceptedUpdate.{update-accepted, update-kept, update-ready, update-mergeable, update-written, update-done}
 use borrow.Author.Needs.{needs}
 use Rattle.edits.proofs.update.Statement.{statement}
 use Rattle.edits.proofs.update.Tie as tie

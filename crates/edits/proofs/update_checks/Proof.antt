@@ -2,7 +2,7 @@
 -- Assumes nothing.
 use Prim.Native.Nat.{_*_}
 use Rattle.model.specs.Layout.{fields, mostRecords}
-use Rattle.editing.proofs.Room.{zeros-long, array-long}
+use Rattle.edit_laws.proofs.Room.{zeros-long, array-long}
 use borrow.Author.Needs.{needs}
 use Rattle.edits.proofs.update_checks.Statement.{statement}
 use Rattle.edits.proofs.update_checks.Tie as tie

@@ -6,7 +6,7 @@ use Prim.Native.Nat.{_≤_, _-_}
 use mathlib.Core.Path.{_≡_}
 use native.Mathlib.Omega.{arith}
 use Rattle.model.specs.Layout.{fields}
-use Rattle.absorbed.specs.Absorb.{fieldsJoined}
+use Rattle.merge_laws.specs.Absorb.{fieldsJoined}
 use Rattle.merge.proofs.Forms.{fields-none, fields-more, fields-all}
 use borrow.Author.Needs.{needs}
 use Rattle.merge.proofs.join_fields.Statement.{statement}

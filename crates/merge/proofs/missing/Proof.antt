@@ -5,8 +5,8 @@ use mathlib.Core.Path.{_≡_}
 use native.Mathlib.Omega.{arith}
 use Rattle.model.specs.Layout.{mostRelations}
 use Rattle.model.specs.Records.{place}
-use Rattle.absorbed.specs.Absorb.{held, missing}
-use Rattle.absorbed.proofs.Chain.{missing-within}
+use Rattle.merge_laws.specs.Absorb.{held, missing}
+use Rattle.merge_laws.proofs.Chain.{missing-within}
 use Rattle.merge.proofs.Forms.{count-all}
 use Rattle.merge.proofs.missing.Statement.{statement}
 use Rattle.merge.proofs.missing.Tie as tie

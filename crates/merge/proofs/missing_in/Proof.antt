@@ -3,8 +3,8 @@
 use mathlib.Core.Path.{refl}
 use native.Mathlib.Omega.{arith}
 use Rattle.merge.proofs.Forms.{count-seeks, count-turn, count-done, absent-small}
-use Rattle.absorbed.specs.Absorb.{held, ahead}
-use Rattle.absorbed.proofs.Chain.{Counting, count-start, count-within, count-less}
+use Rattle.merge_laws.specs.Absorb.{held, ahead}
+use Rattle.merge_laws.proofs.Chain.{Counting, count-start, count-within, count-less}
 use borrow.Author.Needs.{needs}
 use Rattle.merge.proofs.missing_in.Statement.{statement}
 use Rattle.merge.proofs.missing_in.Tie as tie

@@ -4,7 +4,7 @@ use Prim.Native.Nat.{ℕ, _≤_}
 use mathlib.Core.Path.{sym, _∙_}
 use native.Mathlib.Omega.{arith}
 use Rattle.model.specs.Layout.{mostRelations, word}
-use Rattle.absorbed.specs.Absorb.{held, ahead, Linked}
+use Rattle.merge_laws.specs.Absorb.{held, ahead, Linked}
 use Rattle.merge.proofs.Forms.{seek-in, seek-less, seek-again, seek-done}
 use borrow.Author.Needs.{needs}
 use Rattle.merge.proofs.seek.Statement.{statement}

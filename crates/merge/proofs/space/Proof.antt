@@ -1,7 +1,7 @@
 -- `merge::space` meets its contract. The record is met, or added.
 -- Assumes nothing.
 use mathlib.Core.Path.{sym, _∙_}
-use Rattle.absorbed.proofs.Take.{space-here, space-new}
+use Rattle.merge_laws.proofs.Take.{space-here, space-new}
 use Rattle.merge.proofs.Forms.{used-most}
 use borrow.Author.Needs.{needs}
 use Rattle.merge.proofs.space.Statement.{statement}

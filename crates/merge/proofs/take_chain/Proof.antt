@@ -3,8 +3,8 @@
 use mathlib.Core.Path.{_≡_, refl, _∙_}
 use native.Mathlib.Omega.{arith}
 use lib.ListN.{length}
-use Rattle.absorbed.specs.Absorb.{held, ahead}
-use Rattle.absorbed.proofs.Chain.{Along, along-start, along-less}
+use Rattle.merge_laws.specs.Absorb.{held, ahead}
+use Rattle.merge_laws.proofs.Chain.{Along, along-start, along-less}
 use Rattle.merge.proofs.Forms.{chain-seeks, chain-takes, chain-turn, chain-done}
 use borrow.Author.Needs.{needs}
 use Rattle.merge.proofs.take_chain.Statement.{statement}

@@ -6,8 +6,8 @@ use native.Mathlib.Omega.{arith}
 use lib.ListN.{length}
 use Rattle.model.specs.Layout.{mostRelations}
 use Rattle.model.specs.Records.{place}
-use Rattle.absorbed.specs.Absorb.{held, Taken}
-use Rattle.absorbed.proofs.Chain.{taken-none, taken-more, chained}
+use Rattle.merge_laws.specs.Absorb.{held, Taken}
+use Rattle.merge_laws.proofs.Chain.{taken-none, taken-more, chained}
 use Rattle.merge.proofs.Forms.{chains-all}
 use borrow.Author.Needs.{needs}
 use Rattle.merge.proofs.take_chains.Statement.{statement}

@@ -1,0 +1,12 @@
+pub mod Rising
+pub mod Marked
+pub mod Accepted
+pub mod Words
+pub mod Walk
+pub mod Fields
+pub mod Listed
+pub mod Tables
+pub mod Laws
+pub mod Edits
+pub mod Runs
+pub mod Demand

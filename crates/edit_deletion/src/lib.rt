@@ -1,0 +1,43 @@
+// The checks of a deletion in number order.
+ghost use mathlib.Core.Path.{_≡_};
+ghost use Prim.Native.Nat.{_*_};
+ghost use lib.ListN.{length};
+ghost use Rattle.answers.specs.Told.{told, deletionTold};
+ghost use Rattle.model.specs.Layout.{fields, mostRecords};
+ghost use Rattle.model.specs.Lists.{lowest};
+ghost use Rattle.model.specs.Schemas.{schemaOf};
+ghost use Rattle.model.specs.Tables.{recordOf};
+ghost use Rattle.model.specs.Shown.{standing, shown};
+ghost use Rattle.model.specs.Edits.{deletionRedoes};
+ghost use Rattle.model.specs.Calls.{deletionOf};
+ghost use Rattle.references.specs.Resolved.{Resolves, Marked};
+ghost use Rattle.edit_delta.specs.Picked.{Picked};
+ghost use Rattle.edit_basics.specs.Targets.{held, Placed};
+use answers::DeletionAnswer;
+
+// Checks 6, 10 and 13 of the deletion of record `i`; the marks of the records to be redone, where none applies.
+pub fn judge_deletion(
+    schema: &[u64],
+    table: &[u64],
+    refs: &[u16],
+    stands: &[u8],
+    marks: &[u8],
+    i: usize,
+    redo: &mut [u8],
+) -> DeletionAnswer
+    requires { ⌜ Placed (now schema) (now table) i × Resolves (now schema) (now table) (now refs) × (fields * mostRecords ≡ length (now refs)) × Marked (now table) (standing (schemaOf (now schema)) (held (now table))) (now stands) × Marked (now table) (shown (schemaOf (now schema)) (held (now table))) (now marks) × (mostRecords ≡ length (now redo)) ⌝ }
+    ensures answer { λ r. ⌜ deletionTold r ≡ told (lowest (deletionOf (now (schema .entry)) (now (table .entry)) i .checks)) 0 ⌝ }
+    ensures redone { λ _. ⌜ (lowest (deletionOf (now (schema .entry)) (now (table .entry)) i .checks) ≡ 0 → Picked (now (table .entry)) (deletionRedoes (schemaOf (now (schema .entry))) (held (now (table .entry))) (recordOf (now (table .entry)) i)) (now (redo .exit))) ⌝ }
+{
+    if !marks::is_marked(marks, i) {
+        return DeletionAnswer::NotShown;
+    }
+    if edit_conflicts::is_held(schema, table, refs, stands, i) {
+        return DeletionAnswer::Referenced;
+    }
+    edit_redo::mark_deletion(schema, table, refs, i, redo);
+    if edit_redo::is_spent(schema, table, redo) {
+        return DeletionAnswer::FlagSpent;
+    }
+    DeletionAnswer::Deleted
+}

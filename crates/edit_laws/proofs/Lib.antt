@@ -1,0 +1,12 @@
+pub mod Picks
+pub mod Clash
+pub mod DeletionNumber
+pub mod UpdateNumber
+pub mod InsertionNumber
+pub mod First
+pub mod Redone
+pub mod Accepted
+pub mod AcceptedDeletion
+pub mod AcceptedUpdate
+pub mod AcceptedInsertion
+pub mod Room

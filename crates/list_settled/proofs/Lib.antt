@@ -1,0 +1,4 @@
+pub mod Targets
+pub mod Grounded
+pub mod Between
+pub mod Rounds

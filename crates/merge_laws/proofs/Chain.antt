@@ -1,0 +1,275 @@
+-- A chain of another table, walked in lockstep with the own: its records taken in, or counted where they are missing.
+-- Assumes nothing.
+use Prim.Native.Nat.{ℕ, _+_, _-_, _/_, _%_, _≤_, _<_}
+use mathlib.Core.Path.{_≡_, refl, sym, _∙_, ap, subst}
+use mathlib.Core.Bool.{Bool, true, false, cond, not}
+use mathlib.Core.List.{List, [], _∷_, map}
+use mathlib.Core.Logic.{_⊎_, inl, inr}
+use native.Mathlib.Omega.{arith}
+use lib.Dec.{ltb}
+use lib.ListN.{length, length-append, length-map}
+use Rattle.model.specs.Layout.{mostRelations, firstWords, firstAt, nextAt, relationAt, labelAt}
+use Rattle.model.specs.Lists.{only}
+use Rattle.model.specs.Records.{Rec, place, relation, label, labelSpan, has, at, inOrder, Rising, distinct}
+use Rattle.model.specs.Tables.{Table, decode, encode, follower}
+use Rattle.model.specs.Merge.{joinedWith, mergedRecords}
+use Rattle.laws.proofs.Lists.{only-length}
+use Rattle.laws.proofs.Order.{order-rising, at-order, order-length}
+use Rattle.laws.proofs.Members.{order-rising-same}
+use Rattle.laws.proofs.Merge.{new, append-nil}
+use Rattle.laws.proofs.Valid.{distinct-true}
+use Rattle.wellformed.proofs.Follow.{Follows, Last, follows}
+use Rattle.merge_laws.specs.Absorb.{nth, held, withRecords, absorb, beyond, missing, ahead, SoundTable, Whole, Linked, first, meets, Sought, Seekable, Takeable, Chained, Taken, Mergeable}
+use Rattle.merge_laws.proofs.Frames.{no-zero}
+use Rattle.merge_laws.proofs.Step.{step}
+use Rattle.merge_laws.proofs.Beyond.{beyond-rising, beyond-next, beyond-last, beyond-all, beyond-none, follower-first}
+use Rattle.merge_laws.proofs.Walk.{encode-decode, whole-encode, first-is, next-is, relation-is, label-is, ahead-less, met}
+use Rattle.merge_laws.proofs.Take.{absorb-linked, linked-more, absorb-sound}
+
+-- how many records a merge gives
+merged-count : (s o : List Rec) → length (mergedRecords s o) ≡ length s + length (only (new s) (inOrder o))
+unfolding mergedRecords
+merged-count s o = length-append (map (joinedWith o) s) (only (new s) (inOrder o)) ∙ ap (λ (n : ℕ). n + length (only (new s) (inOrder o))) (length-map s (joinedWith o))
+
+only-cons : (s : List Rec) (y : Rec) (ys : List Rec) → length (only (new s) (y ∷ ys)) ≡ cond (has s (y .key)) 0 1 + length (only (new s) ys)
+unfolding only
+only-cons s y ys = go (has s (y .key))
+  where
+    go : (b : Bool) → length (cond (not b) (y ∷ only (new s) ys) (only (new s) ys)) ≡ cond b 0 1 + length (only (new s) ys)
+    go true = omega arith
+    go false = omega arith
+
+pub merged-more : (s : List Rec) (y : Rec) (ys : List Rec) → Rising 0 (y ∷ ys) → has s (y .key) ≡ false → length s < length (mergedRecords s (y ∷ ys))
+merged-more s y ys r h =
+    let e : length (only (new s) (inOrder (y ∷ ys))) ≡ cond (has s (y .key)) 0 1 + length (only (new s) ys) = rw (order-rising-same (y ∷ ys) r) (only-cons s y ys) in
+    let n : _≡_ {A = ℕ} (cond (has s (y .key)) 0 1) 1 = rw h in
+    omega (arith, merged-count s (y ∷ ys))
+
+-- The state of a walk along the chain of relation r of table b, at its record j, with the own link at word a.
+pub record Going (t b : List ℕ) (r j a : ℕ) : Type 0 where
+  pub key : ℕ
+  pub related : key / labelSpan ≡ r
+  pub index : j ≡ follower (decode b .records) r key
+  pub linked : Linked (decode t .records) r (key % labelSpan) a
+
+module _ (t b : List ℕ) (wt : Whole t) (wb : Whole b) (r : ℕ) (r₁ : 1 ≤ r) (r₂ : r ≤ mostRelations) where
+  pub going-start : (j a : ℕ) → j ≡ firstAt b r → a ≡ firstWords + (r - 1) → Going t b r j a
+  going-start j a e d =
+      record {
+        key = place r 0;
+        related = omega arith;
+        index = e ∙ first-is b wb r r₁ r₂ ∙ sym (follower-first (decode b) (wb .value) r);
+        linked = rw d first;
+      }
+
+  module _ (j a : ℕ) (g : Going t b r j a) where
+    leads : Follows (held b) r (g .key) j ⊎ Last (held b) r (g .key) j
+    leads = subst (λ (i : ℕ). Follows (held b) r (g .key) i ⊎ Last (held b) r (g .key) i) (sym (g .index)) (follows (held b) r (g .key) (no-zero (decode b) (wb .value)))
+
+    pub going-end : j ≡ 0 → beyond (g .key) (held b) ≡ beyond (place (r + 1) 0) (held b)
+    going-end e = go leads
+      where
+        go : Follows (held b) r (g .key) j ⊎ Last (held b) r (g .key) j → beyond (g .key) (held b) ≡ beyond (place (r + 1) 0) (held b)
+        go (inl f) = absurd (omega (arith, f .here))
+        go (inr f) = beyond-last (decode b) (wb .value) r (g .key) j (g .related) f
+
+    module _ (n : 0 < j) where
+      pub in-chain : Follows (held b) r (g .key) j
+      in-chain = go leads
+        where
+          go : Follows (held b) r (g .key) j ⊎ Last (held b) r (g .key) j → Follows (held b) r (g .key) j
+          go (inl f) = f
+          go (inr f) = absurd (omega (arith, f .none))
+
+      pub of-relation : relationAt b j ≡ r
+      of-relation = relation-is b wb j (in-chain .here) (in-chain .within) ∙ in-chain .related
+
+      of-label : labelAt b j ≡ label (nth (held b) j)
+      of-label = label-is b wb j (in-chain .here) (in-chain .within)
+
+      of-key : place r (labelAt b j) ≡ nth (held b) j .key
+      of-key = omega (arith, of-label, in-chain .related)
+
+      pub going-linked : Linked (held t) r (labelAt b j) a
+      going-linked = linked-more (held t) r (g .key % labelSpan) (labelAt b j) a (omega (arith, of-label, in-chain .related, in-chain .above, g .related)) (g .linked)
+
+      pub going-seek : Seekable t (labelAt b j) a
+      going-seek = record { whole = wt; relation = r; least = r₁; most = r₂; linked = going-linked }
+
+      pub going-rest : beyond (g .key) (held b) ≡ nth (held b) j ∷ beyond (nth (held b) j .key) (held b)
+      going-rest = beyond-next (decode b) (wb .value) r (g .key) j (g .related) in-chain
+
+      pub going-on : (t' : List ℕ) (j' a' : ℕ) → Linked (held t') r (labelAt b j) a' → j' ≡ nextAt b j → Going t' b r j' a'
+      going-on t' j' a' l e =
+          record {
+            key = nth (held b) j .key;
+            related = in-chain .related;
+            index = e ∙ next-is b wb j (in-chain .here) (in-chain .within) ∙ ap (λ (q : ℕ). follower (held b) q (nth (held b) j .key)) (in-chain .related);
+            linked = subst (λ (q : ℕ). Linked (held t') r q a') of-label l;
+          }
+
+      pub going-less : (j' : ℕ) → j' ≡ nextAt b j → ahead (held b) j' < ahead (held b) j
+      going-less j' e = rw e (ahead-less b wb j (in-chain .here) (in-chain .within))
+
+      pub going-met : (a' : ℕ) → Sought t r (labelAt b j) a' → has (held t) (nth (held b) j .key) ≡ meets t a' (labelAt b j)
+      going-met a' s =
+          let x = wb .value .sound j (in-chain .here) (in-chain .within) in
+          rw of-key at (met t wt r (labelAt b j) r₁ r₂ a' s (rw of-label (x .labelled)) (omega (arith, of-label)))
+
+-- Taking in: what is left to take in gives the same records.
+pub record Along (t₀ t b : List ℕ) (r j a : ℕ) : Type 0 where
+  pub whole : Whole t
+  pub kept : decode t ≡ withRecords (decode t₀) (decode t .records)
+  pub going : Going t b r j a
+  pub same : mergedRecords (decode t .records) (beyond (going .key) (decode b .records)) ≡ mergedRecords (decode t₀ .records) (beyond (place r 0) (decode b .records))
+
+module _ (t₀ b : List ℕ) (r : ℕ) (c : Chained t₀ b r) where
+  pub along-start : (j a : ℕ) → j ≡ firstAt b r → a ≡ firstWords + (r - 1) → Along t₀ t₀ b r j a
+  unfolding going-start
+  along-start j a e d = record { whole = c .own; kept = refl; going = going-start t₀ b (c .own) (c .other) r (c .least) (c .most) j a e d; same = refl }
+
+  module _ (t : List ℕ) (j a : ℕ) (g : Along t₀ t b r j a) where
+    pub along-end : j ≡ 0 → Taken t₀ t (held b) (place r 0) (place (r + 1) 0)
+    along-end e = record { whole = g .whole; kept = g .kept; same = rw (going-end t b (g .whole) (c .other) r (c .least) (c .most) j a (g .going) e) at (g .same) }
+
+    module _ (n : 0 < j) where
+      pub along-seek : Seekable t (labelAt b j) a
+      along-seek = going-seek t b (g .whole) (c .other) r (c .least) (c .most) j a (g .going) n
+
+      rest : beyond (g .going .key) (held b) ≡ nth (held b) j ∷ beyond (nth (held b) j .key) (held b)
+      rest = going-rest t b (g .whole) (c .other) r (c .least) (c .most) j a (g .going) n
+
+      rising : Rising 0 (nth (held b) j ∷ beyond (nth (held b) j .key) (held b))
+      rising = (omega arith, beyond-rising (nth (held b) j .key) (held b))
+
+      same-rest : mergedRecords (held t) (nth (held b) j ∷ beyond (nth (held b) j .key) (held b)) ≡ mergedRecords (held t₀) (beyond (place r 0) (held b))
+      same-rest = ap (λ (l : List Rec). mergedRecords (held t) l) (sym rest) ∙ g .same
+
+      pub along-take : (a' : ℕ) → Sought t r (labelAt b j) a' → Takeable t b j a'
+      along-take a' s =
+          let f = in-chain t b (g .whole) (c .other) r (c .least) (c .most) j a (g .going) n in
+          let e : decode t .capacity ≡ decode t₀ .capacity = ap (λ (v : Table). v .capacity) (g .kept) in
+          let m : length (mergedRecords (held t) (nth (held b) j ∷ beyond (nth (held b) j .key) (held b))) ≤ decode t .capacity = omega (arith, ap length same-rest, c .room) in
+          record {
+            own = g .whole;
+            other = c .other;
+            least = f .here;
+            most = f .within;
+            sought = rw (of-relation t b (g .whole) (c .other) r (c .least) (c .most) j a (g .going) n) s;
+            room = λ h. omega (arith, merged-more (held t) (nth (held b) j) (beyond (nth (held b) j .key) (held b)) rising h);
+          }
+
+      pub along-on : (a' : ℕ) (s : Sought t r (labelAt b j) a') (t' : List ℕ) (j' : ℕ) → t' ≡ encode (withRecords (decode t) (absorb (held t) (nth (held b) j))) → j' ≡ nextAt b j → Along t₀ t' b r j' a'
+      unfolding going-on
+      along-on a' s t' j' e d =
+          let x = nth (held b) j in
+          let u = along-take a' s in
+          let w' : SoundTable (withRecords (decode t) (absorb (held t) x)) = absorb-sound t b j a' u in
+          let dc : decode t' ≡ withRecords (decode t) (absorb (held t) x) = ap decode e ∙ encode-decode (withRecords (decode t) (absorb (held t) x)) w' in
+          let hd : held t' ≡ absorb (held t) x = ap (λ (v : Table). v .records) dc in
+          record {
+            whole = subst (λ (l : List ℕ). Whole l) (sym e) (whole-encode (withRecords (decode t) (absorb (held t) x)) w');
+            kept = dc ∙ ap (λ (v : Table). withRecords v (absorb (held t) x)) (g .kept) ∙ ap (λ (l : List Rec). withRecords (decode t₀) l) (sym hd);
+            going =
+                going-on t b (g .whole) (c .other) r (c .least) (c .most) j a (g .going) n t' j' a'
+                (subst (λ (l : List Rec). Linked l r (labelAt b j) a') (sym hd) (absorb-linked (held t) x r (labelAt b j) a' (s .linked))) d;
+            same =
+                ap (λ (l : List Rec). mergedRecords l (beyond (x .key) (held b))) hd
+                ∙ step (held t) x (beyond (x .key) (held b)) (distinct-true (held t) (g .whole .value .single)) (c .other .value .sound j (u .least) (u .most) .wide) rising ∙ same-rest;
+          }
+
+      pub along-less : (j' : ℕ) → j' ≡ nextAt b j → ahead (held b) j' < ahead (held b) j
+      along-less j' e = going-less t b (g .whole) (c .other) r (c .least) (c .most) j a (g .going) n j' e
+
+-- All chains.
+pub taken-none : (t b : List ℕ) (k : ℕ) → Whole t → Taken t t (held b) k k
+taken-none t b k w = record { whole = w; kept = refl; same = refl }
+
+pub taken-more : (t₀ t t' : List ℕ) (o : List Rec) (k m n : ℕ) → Taken t₀ t o k m → Taken t t' o m n → Taken t₀ t' o k n
+taken-more t₀ t t' o k m n a b = record { whole = b .whole; kept = b .kept ∙ ap (λ (v : Table). withRecords v (held t')) (a .kept); same = b .same ∙ a .same }
+
+map-none : (s : List Rec) → map (joinedWith []) s ≡ s
+unfolding joinedWith at
+map-none [] = refl
+map-none (x ∷ xs) = ap (λ (l : List Rec). x ∷ l) (map-none xs)
+
+map-order : (o s : List Rec) → map (joinedWith (inOrder o)) s ≡ map (joinedWith o) s
+unfolding joinedWith
+map-order o [] = refl
+map-order o (x ∷ xs) = rw (at-order (x .key) o, map-order o xs)
+
+merged-none : (s : List Rec) → mergedRecords s [] ≡ s
+unfolding mergedRecords inOrder only
+merged-none s = append-nil (map (joinedWith []) s) ∙ map-none s
+
+merged-order : (s o : List Rec) → mergedRecords s (inOrder o) ≡ mergedRecords s o
+unfolding mergedRecords
+merged-order s o = rw (map-order o s, order-rising-same (inOrder o) (order-rising o))
+
+module _ (t₀ b : List ℕ) (m : Mergeable t₀ b) where
+  first-rest : mergedRecords (held t₀) (beyond (place 1 0) (held b)) ≡ mergedRecords (held t₀) (held b)
+  first-rest = ap (λ (l : List Rec). mergedRecords (held t₀) l) (beyond-all (decode b) (m .other .value)) ∙ merged-order (held t₀) (held b)
+
+  pub chained : (t : List ℕ) (r : ℕ) → 1 ≤ r → r ≤ mostRelations → Taken t₀ t (held b) (place 1 0) (place r 0) → Chained t b r
+  chained t r r₁ r₂ k =
+      let e : decode t .capacity ≡ decode t₀ .capacity = ap (λ (v : Table). v .capacity) (k .kept) in
+      record { own = k .whole; other = m .other; least = r₁; most = r₂; room = omega (arith, ap length (k .same ∙ first-rest), m .room) }
+
+  pub taken-all : (t : List ℕ) → Taken t₀ t (held b) (place 1 0) (place (mostRelations + 1) 0) → t ≡ encode (withRecords (decode t₀) (mergedRecords (held t₀) (held b)))
+  taken-all t k =
+      let e : held t ≡ mergedRecords (held t₀) (held b) =
+      sym (merged-none (held t)) ∙ ap (λ (l : List Rec). mergedRecords (held t) l) (sym (beyond-none (decode b) (m .other .value))) ∙ k .same ∙ first-rest in
+      sym (k .whole .words) ∙ ap encode (k .kept ∙ ap (λ (l : List Rec). withRecords (decode t₀) l) e)
+
+-- Counting.
+pub record Counting (t b : List ℕ) (r j a n : ℕ) : Type 0 where
+  pub going : Going t b r j a
+  pub same : n + missing (decode t .records) (going .key) (decode b .records) ≡ missing (decode t .records) (place r 0) (decode b .records)
+
+pub missing-within : (s o : List Rec) (k : ℕ) → distinct o ≡ true → missing s k o ≤ length o
+unfolding missing beyond
+missing-within s o k d =
+    omega (arith, only-length (new s) (only (λ (x : Rec). ltb k (x .key)) (inOrder o)), only-length (λ (x : Rec). ltb k (x .key)) (inOrder o), order-length o (distinct-true o d))
+
+pub missing-none : (s : List Rec) (b : List ℕ) → Whole b → missing s (place (mostRelations + 1) 0) (held b) ≡ 0
+unfolding missing only
+missing-none s b wb = rw (beyond-none (decode b) (wb .value))
+
+pub merged-missing : (s : List Rec) (b : List ℕ) → Whole b → length (mergedRecords s (held b)) ≡ length s + missing s (place 1 0) (held b)
+unfolding missing
+merged-missing s b wb = rw (beyond-all (decode b) (wb .value)) (merged-count s (held b))
+
+module _ (t b : List ℕ) (wt : Whole t) (wb : Whole b) (r : ℕ) (r₁ : 1 ≤ r) (r₂ : r ≤ mostRelations) where
+  pub count-start : (j a : ℕ) → j ≡ firstAt b r → a ≡ firstWords + (r - 1) → Counting t b r j a 0
+  unfolding going-start
+  count-start j a e d = record { going = going-start t b wt wb r r₁ r₂ j a e d; same = omega arith }
+
+  module _ (j a n : ℕ) (g : Counting t b r j a n) where
+    pub count-end : j ≡ 0 → n + missing (held t) (place (r + 1) 0) (held b) ≡ missing (held t) (place r 0) (held b)
+    unfolding missing
+    count-end e = rw (going-end t b wt wb r r₁ r₂ j a (g .going) e) at (g .same)
+
+    pub count-within : n ≤ length (held b)
+    count-within = omega (arith, g .same, missing-within (held t) (held b) (place r 0) (wb .value .single))
+
+    module _ (p : 0 < j) where
+      pub count-on : (a' j' n' : ℕ) → Sought t r (labelAt b j) a' → j' ≡ nextAt b j → n' ≡ n + cond (meets t a' (labelAt b j)) 0 1 → Counting t b r j' a' n'
+      unfolding going-on missing
+      count-on a' j' n' s e d =
+          let x = nth (held b) j in
+          let h = going-met t b wt wb r r₁ r₂ j a (g .going) p a' s in
+          let q = rw (going-rest t b wt wb r r₁ r₂ j a (g .going) p) at (g .same) in
+          let c : _≡_ {A = ℕ} (cond (has (held t) (x .key)) 0 1) (cond (meets t a' (labelAt b j)) 0 1) = ap (λ (u : Bool). cond {A = ℕ} u 0 1) h in
+          record {
+            going = going-on t b wt wb r r₁ r₂ j a (g .going) p t j' a' (s .linked) e;
+            same = omega (arith, q, only-cons (held t) x (beyond (x .key) (held b)));
+          }
+
+      pub count-linked : Linked (held t) r (labelAt b j) a
+      count-linked = going-linked t b wt wb r r₁ r₂ j a (g .going) p
+
+      pub count-seek : Seekable t (labelAt b j) a
+      count-seek = going-seek t b wt wb r r₁ r₂ j a (g .going) p
+
+      pub count-less : (j' : ℕ) → j' ≡ nextAt b j → ahead (held b) j' < ahead (held b) j
+      count-less j' e = going-less t b wt wb r r₁ r₂ j a (g .going) p j' e

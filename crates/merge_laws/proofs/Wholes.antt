@@ -1,0 +1,53 @@
+-- Well-formed tables are whole, and so are the words of a valid value.
+-- Assumes nothing.
+use Prim.Native.Nat.{ℕ, _≤_}
+use mathlib.Core.Path.{_≡_}
+use mathlib.Core.Bool.{true, false}
+use mathlib.Core.List.{List}
+use native.Mathlib.Omega.{arith}
+use lib.ListN.{length}
+use Rattle.model.specs.Layout.{fields, mostRelations}
+use Rattle.model.specs.Schemas.{Relation, broken, schemaOf}
+use Rattle.model.specs.Records.{label}
+use Rattle.model.specs.Tables.{Table, decode, encode}
+use Rattle.model.specs.WellFormed.{wellFormed}
+use Rattle.model.specs.Valid.{valid}
+use Rattle.model.specs.Merge.{mergedRecords}
+use Rattle.model.specs.Calls.{tableLength}
+use Rattle.wellformed.proofs.ValidParts.{valid-table, record-valid}
+use Rattle.wellformed.proofs.EncodedChains.{label-above}
+use Rattle.wellformed.proofs.Formed.{relations-within, schema-length}
+use Rattle.wellformed.proofs.Values.{formed-valid}
+use Rattle.wellformed.proofs.Encoded.{formed-encoded}
+use Rattle.merge_laws.specs.Absorb.{nth, held, SoundTable, Whole, Mergeable}
+use Rattle.merge_laws.proofs.Walk.{whole-encode}
+
+-- A valid value is sound.
+pub valid-sound : (σ : List Relation) (v : Table) → length σ ≤ mostRelations → valid fields σ v ≡ true → SoundTable v
+valid-sound σ v m h =
+    let t = valid-table fields σ v h in
+    record {
+      room = t .room;
+      most = t .small;
+      sound =
+          λ i a b.
+          let x = record-valid fields σ v t i a b in
+          record { least = x .above; most = omega (arith, x .known); labelled = label-above (label (nth (v .records) i)) (x .labelled); flagged = x .flagged; wide = x .sized };
+      single = t .single;
+    }
+
+pub valid-whole : (σ : List Relation) (v : Table) → length σ ≤ mostRelations → valid fields σ v ≡ true → Whole (encode v)
+valid-whole σ v m h = whole-encode v (valid-sound σ v m h)
+
+-- A well-formed table is whole.
+pub formed-whole : (s t : List ℕ) → broken s ≡ false → tableLength t ≡ true → wellFormed s t ≡ true → Whole t
+formed-whole s t b l w =
+    record {
+      words = formed-encoded s t b l w;
+      value = valid-sound (schemaOf s) (decode t) (omega (arith, schema-length s, relations-within s b)) (formed-valid s t b l w);
+    }
+
+-- What merging needs, of two well-formed tables.
+pub formed-mergeable : (s t b : List ℕ) → broken s ≡ false → tableLength t ≡ true → wellFormed s t ≡ true → tableLength b ≡ true → wellFormed s b ≡ true
+    → length (mergedRecords (held t) (held b)) ≤ decode t .capacity → Mergeable t b
+formed-mergeable s t b nb lt wt lb wb room = record { own = formed-whole s t nb lt wt; other = formed-whole s b nb lb wb; room = room }

@@ -1,1 +1,0 @@
-// The laws by which the records that an edit redoes are picked by position.

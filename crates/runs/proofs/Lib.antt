@@ -1,5 +1,0 @@
-pub mod Tables
-pub mod Laws
-pub mod Edits
-pub mod Runs
-pub mod Demand

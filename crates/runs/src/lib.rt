@@ -1,1 +1,0 @@
-// Demand 3: the laws of merge over words, and one theorem about every list of calls on a fleet. There is no code here.

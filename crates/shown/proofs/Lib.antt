@@ -1,5 +1,0 @@
-pub mod Targets
-pub mod Grounded
-pub mod Between
-pub mod Rounds
-pub mod Counted

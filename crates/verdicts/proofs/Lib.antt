@@ -1,4 +1,0 @@
-pub mod Clash
-pub mod Deletion
-pub mod Update
-pub mod Insertion

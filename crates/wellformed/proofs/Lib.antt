@@ -1,0 +1,13 @@
+pub mod Follow
+pub mod Ranges
+pub mod ValidParts
+pub mod Words
+pub mod EncodedChains
+pub mod Formed
+pub mod ListRanges
+pub mod Facts
+pub mod Pigeon
+pub mod Chains
+pub mod Values
+pub mod Links
+pub mod Encoded
