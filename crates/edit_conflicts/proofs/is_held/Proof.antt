@@ -1,4 +1,4 @@
--- `judged::is_held` meets its contract.
+-- `edit_conflicts::is_held` meets its contract.
 -- Assumes nothing.
 use Prim.Native.Nat.{ℕ, _≤_, _+_, _-_}
 use mathlib.Core.Path.{_≡_, refl, sym, _∙_}

@@ -1,4 +1,4 @@
--- `judged::judge_deletion` meets its contract.
+-- `edit_deletion::judge_deletion` meets its contract.
 -- Assumes nothing.
 use Prim.Native.Nat.{ℕ, _≤_}
 use mathlib.Core.Path.{_≡_, ap}

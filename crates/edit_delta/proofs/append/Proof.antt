@@ -1,4 +1,4 @@
--- `drafts::append` meets its contract.
+-- `edit_delta::append` meets its contract.
 -- Assumes nothing.
 use Rattle.model.specs.Layout.{base}
 use native.Mathlib.Omega.{arith}

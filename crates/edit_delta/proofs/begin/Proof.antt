@@ -1,4 +1,4 @@
--- `drafts::begin` meets its contract.
+-- `edit_delta::begin` meets its contract.
 -- Assumes nothing.
 use Rattle.edit_delta.proofs.Turns.{begun}
 use borrow.Author.Needs.{needs}

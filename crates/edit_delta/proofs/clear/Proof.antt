@@ -1,4 +1,4 @@
--- `drafts::clear` meets its contract.
+-- `edit_delta::clear` meets its contract.
 -- Assumes nothing.
 use Prim.Native.Nat.{ℕ, _≤_, _<_, _-_}
 use mathlib.Core.Path.{_≡_, refl}

@@ -1,4 +1,4 @@
--- `drafts::draft_chain` meets its contract.
+-- `edit_delta::draft_chain` meets its contract.
 -- Assumes nothing.
 use Prim.Native.Nat.{_-_}
 use mathlib.Core.Path.{_≡_}

@@ -1,4 +1,4 @@
--- `drafts::draft_deletion` meets its contract.
+-- `edit_delta::draft_deletion` meets its contract.
 -- Assumes nothing.
 use mathlib.Core.Path.{_∙_, ap}
 use Rattle.crdt.specs.Flags.{deleted}

@@ -1,4 +1,4 @@
--- `drafts::draft_flag` meets its contract.
+-- `edit_delta::draft_flag` meets its contract.
 -- Assumes nothing.
 use mathlib.Core.Path.{refl}
 use borrow.Author.Needs.{needs}

@@ -1,4 +1,4 @@
--- `drafts::draft_insertion` meets its contract.
+-- `edit_delta::draft_insertion` meets its contract.
 -- Assumes nothing.
 use Rattle.edit_delta.proofs.Given.{source}
 use Rattle.edit_delta.proofs.Turns.{found-small, insertion-edited, insertion-findable, insertion-done}

@@ -1,4 +1,4 @@
--- `drafts::draft_record` meets its contract.
+-- `edit_delta::draft_record` meets its contract.
 -- Assumes nothing.
 use Rattle.edit_delta.proofs.Turns.{stepped-yes, stepped-no}
 use borrow.Author.Needs.{needs}

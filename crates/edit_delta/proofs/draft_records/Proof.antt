@@ -1,4 +1,4 @@
--- `drafts::draft_records` meets its contract.
+-- `edit_delta::draft_records` meets its contract.
 -- Assumes nothing.
 use Prim.Native.Nat.{_≤_, _+_, _-_}
 use mathlib.Core.Path.{_≡_}

@@ -1,4 +1,4 @@
--- `drafts::draft_relation` meets its contract.
+-- `edit_delta::draft_relation` meets its contract.
 -- Assumes nothing.
 use Rattle.edit_delta.proofs.Turns.{walk-room, new-clock, relation-adds, relation-ends}
 use borrow.Author.Needs.{needs}

@@ -1,4 +1,4 @@
--- `drafts::draft_update` meets its contract.
+-- `edit_delta::draft_update` meets its contract.
 -- Assumes nothing.
 use native.Mathlib.Omega.{arith}
 use Rattle.edit_delta.proofs.Given.{source}

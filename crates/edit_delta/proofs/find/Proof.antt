@@ -1,4 +1,4 @@
--- `drafts::find` meets its contract.
+-- `edit_delta::find` meets its contract.
 -- Assumes nothing.
 use Rattle.crdt.proofs.Tests.{not-true}
 use Prim.Native.Nat.{_≤_}

@@ -1,4 +1,4 @@
--- `drafts::is_at` meets its contract.
+-- `edit_delta::is_at` meets its contract.
 -- Assumes nothing.
 use borrow.Author.Needs.{needs}
 use Rattle.edit_delta.proofs.is_at.Statement.{statement}

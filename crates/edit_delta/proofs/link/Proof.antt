@@ -1,4 +1,4 @@
--- `drafts::link` meets its contract.
+-- `edit_delta::link` meets its contract.
 -- Assumes nothing.
 use Rattle.edit_delta.proofs.Turns.{link-yes, link-no}
 use borrow.Author.Needs.{needs}

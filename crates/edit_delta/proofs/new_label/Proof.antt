@@ -1,4 +1,4 @@
--- `drafts::new_label` meets its contract.
+-- `edit_delta::new_label` meets its contract.
 -- Assumes nothing.
 use mathlib.Core.Path.{_∙_}
 use Rattle.edit_delta.proofs.Turns.{label-now}

@@ -1,4 +1,4 @@
--- `drafts::write_register` meets its contract.
+-- `edit_delta::write_register` meets its contract.
 -- Assumes nothing.
 use Rattle.model.specs.Layout.{base}
 use native.Mathlib.Omega.{arith}

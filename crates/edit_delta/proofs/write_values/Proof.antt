@@ -1,4 +1,4 @@
--- `drafts::write_values` meets its contract.
+-- `edit_delta::write_values` meets its contract.
 -- Assumes nothing.
 use Prim.Native.Nat.{_≤_, _-_}
 use mathlib.Core.Path.{_≡_, _∙_, ap}

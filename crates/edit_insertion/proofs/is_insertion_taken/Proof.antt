@@ -1,4 +1,4 @@
--- `inserted::is_insertion_taken` meets its contract.
+-- `edit_insertion::is_insertion_taken` meets its contract.
 -- Assumes nothing.
 use Rattle.model.specs.Schemas.{schemaOf}
 use Rattle.model.specs.Records.{Rec}

@@ -1,4 +1,4 @@
--- `inserted::judge_room` meets its contract.
+-- `edit_insertion::judge_room` meets its contract.
 -- Assumes nothing.
 use Prim.Native.Nat.{ℕ, _≤_}
 use mathlib.Core.Path.{_≡_, ap}

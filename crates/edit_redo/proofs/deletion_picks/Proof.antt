@@ -1,4 +1,4 @@
--- `redoes::deletion_picks` meets its contract.
+-- `edit_redo::deletion_picks` meets its contract.
 -- Assumes nothing.
 use Prim.Native.Nat.{ℕ, _%_}
 use mathlib.Core.Path.{_≡_}

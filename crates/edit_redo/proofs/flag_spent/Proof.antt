@@ -1,4 +1,4 @@
--- `redoes::flag_spent` meets its contract.
+-- `edit_redo::flag_spent` meets its contract.
 -- Assumes nothing.
 use Prim.Native.Nat.{ℕ}
 use mathlib.Core.Path.{_≡_, ap₂}

@@ -1,4 +1,4 @@
--- `redoes::insertion_picks` meets its contract.
+-- `edit_redo::insertion_picks` meets its contract.
 -- Assumes nothing.
 use Rattle.edit_laws.proofs.Picks.{insertion-even, insertion-odd}
 use borrow.Author.Needs.{needs}

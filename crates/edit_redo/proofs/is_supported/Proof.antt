@@ -1,4 +1,4 @@
--- `redoes::is_supported` meets its contract.
+-- `edit_redo::is_supported` meets its contract.
 -- Assumes nothing.
 use Prim.Native.Nat.{ℕ, _≤_, _+_, _-_}
 use mathlib.Core.Path.{_≡_, sym, _∙_}

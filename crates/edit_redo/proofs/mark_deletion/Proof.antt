@@ -1,4 +1,4 @@
--- `redoes::mark_deletion` meets its contract.
+-- `edit_redo::mark_deletion` meets its contract.
 -- Assumes nothing.
 use Prim.Native.Nat.{ℕ, _≤_, _+_, _-_}
 use mathlib.Core.Path.{_≡_, refl, sym, _∙_, ap}

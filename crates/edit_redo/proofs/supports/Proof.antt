@@ -1,4 +1,4 @@
--- `redoes::supports` meets its contract.
+-- `edit_redo::supports` meets its contract.
 -- Assumes nothing.
 use Rattle.crdt.proofs.Tests.{not-true}
 use Rattle.edit_basics.proofs.Turns.{not-left}

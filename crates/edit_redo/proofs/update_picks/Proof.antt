@@ -1,4 +1,4 @@
--- `redoes::update_picks` meets its contract.
+-- `edit_redo::update_picks` meets its contract.
 -- Assumes nothing.
 use native.Mathlib.Omega.{arith}
 use Rattle.edit_laws.proofs.Picks.{update-even, update-new, update-propagation, update-same, update-old, update-not-old}

@@ -1,4 +1,4 @@
--- `targets::field_aborts` meets its contract.
+-- `edit_targets::field_aborts` meets its contract.
 -- Assumes nothing.
 use Rattle.model.specs.Schemas.{isAbort}
 use Rattle.model.specs.Layout.{fields, relationAt, kindAt}

@@ -1,4 +1,4 @@
--- `targets::field_refers` meets its contract.
+-- `edit_targets::field_refers` meets its contract.
 -- Assumes nothing.
 use Rattle.model.specs.Schemas.{isReference}
 use Rattle.model.specs.Layout.{fields, relationAt, kindAt}

@@ -1,4 +1,4 @@
--- `targets::find` meets its contract.
+-- `edit_targets::find` meets its contract.
 -- Assumes nothing.
 use mathlib.Core.Path.{_≡_, sym, _∙_}
 use mathlib.Core.Logic.{inl, inr}

@@ -1,4 +1,4 @@
--- `targets::lead_to` meets its contract.
+-- `edit_targets::lead_to` meets its contract.
 -- Assumes nothing.
 use Prim.Native.Nat.{_≤_, _-_}
 use mathlib.Core.Path.{_≡_, sym, _∙_, ap}

@@ -1,4 +1,4 @@
--- `targets::leads_to` meets its contract.
+-- `edit_targets::leads_to` meets its contract.
 -- Assumes nothing.
 use Rattle.edit_basics.proofs.Marks.{value-leads}
 use borrow.Author.Needs.{needs}

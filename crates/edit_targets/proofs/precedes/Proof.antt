@@ -1,4 +1,4 @@
--- `targets::precedes` meets its contract.
+-- `edit_targets::precedes` meets its contract.
 -- Assumes nothing.
 use Prim.Native.Nat.{ℕ}
 use mathlib.Core.Path.{_≡_, ap}

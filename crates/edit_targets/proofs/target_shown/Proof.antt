@@ -1,4 +1,4 @@
--- `targets::target_shown` meets its contract.
+-- `edit_targets::target_shown` meets its contract.
 -- Assumes nothing.
 use mathlib.Core.Path.{_≡_, sym, _∙_, ap}
 use native.Mathlib.Omega.{arith}

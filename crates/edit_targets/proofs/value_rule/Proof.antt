@@ -1,4 +1,4 @@
--- `targets::value_rule` meets its contract.
+-- `edit_targets::value_rule` meets its contract.
 -- Assumes nothing.
 use mathlib.Core.Path.{ap}
 use mathlib.Core.Bool.{Bool, _||_, not}

@@ -1,4 +1,4 @@
--- `targets::values_rule` meets its contract.
+-- `edit_targets::values_rule` meets its contract.
 -- Assumes nothing.
 use Prim.Native.Nat.{_≤_, _-_}
 use mathlib.Core.Path.{_≡_, sym, _∙_}

@@ -1,4 +1,4 @@
--- `updated::is_update_taken` meets its contract.
+-- `edit_update::is_update_taken` meets its contract.
 -- Assumes nothing.
 use mathlib.Core.Path.{refl}
 use Rattle.edit_laws.proofs.UpdateNumber.{taken-as}

@@ -1,4 +1,4 @@
--- `updated::judge_update` meets its contract. In an answer `e1` to `e7` are the places behind the tests that were passed, and `st` is the start.
+-- `edit_update::judge_update` meets its contract. In an answer `e1` to `e7` are the places behind the tests that were passed, and `st` is the start.
 -- Assumes nothing.
 use Prim.Native.Nat.{ℕ, _≤_}
 use mathlib.Core.Path.{_≡_, sym, _∙_, ap}

@@ -1,4 +1,4 @@
--- `updated::narrow` meets its contract.
+-- `edit_update::narrow` meets its contract.
 -- Assumes nothing.
 use Rattle.edit_laws.proofs.UpdateNumber.{narrow-kept, narrow-none}
 use borrow.Author.Needs.{needs}

@@ -1,4 +1,4 @@
--- `updated::renew` meets its contract.
+-- `edit_update::renew` meets its contract.
 -- Assumes nothing.
 use Prim.Native.Nat.{ℕ, _≤_, _+_, _-_}
 use mathlib.Core.Path.{_≡_, refl, _∙_}

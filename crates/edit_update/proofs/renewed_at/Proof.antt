@@ -1,4 +1,4 @@
--- `updated::renewed_at` meets its contract.
+-- `edit_update::renewed_at` meets its contract.
 -- Assumes nothing.
 use Rattle.edit_laws.proofs.Clash.{choice-here, choice-there}
 use borrow.Author.Needs.{needs}

@@ -1,4 +1,4 @@
--- `kept::agrees` meets its contract.
+-- `list_keys::agrees` meets its contract.
 -- Assumes nothing.
 use mathlib.Core.Path.{refl}
 use Rattle.list_keys.proofs.agrees.Statement.{statement}

@@ -1,4 +1,4 @@
--- `kept::bucket` meets its contract.
+-- `list_keys::bucket` meets its contract.
 -- Assumes nothing.
 use native.Mathlib.Omega.{arith}
 use Rattle.model.specs.Layout.{base}

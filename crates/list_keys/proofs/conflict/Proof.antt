@@ -1,4 +1,4 @@
--- `kept::conflict` meets its contract.
+-- `list_keys::conflict` meets its contract.
 -- Assumes nothing.
 use Rattle.list_keys.proofs.Keys.{no-key, a-key}
 use borrow.Author.Needs.{needs}

@@ -1,4 +1,4 @@
--- `kept::conflicts_on` meets its contract.
+-- `list_keys::conflicts_on` meets its contract.
 -- Assumes nothing.
 use native.Mathlib.Omega.{arith}
 use Rattle.model.specs.Layout.{base}

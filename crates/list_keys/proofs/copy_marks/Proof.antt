@@ -1,4 +1,4 @@
--- `kept::copy_marks` meets its contract.
+-- `list_keys::copy_marks` meets its contract.
 -- Assumes nothing.
 use Prim.Native.Nat.{_≤_, _-_}
 use mathlib.Core.Path.{_≡_, refl}

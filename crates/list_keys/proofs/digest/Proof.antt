@@ -1,4 +1,4 @@
--- `kept::digest` meets its contract.
+-- `list_keys::digest` meets its contract.
 -- Assumes nothing.
 use Prim.Native.Nat.{_≤_, _<_, _-_}
 use mathlib.Core.Path.{_≡_}

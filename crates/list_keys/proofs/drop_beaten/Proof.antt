@@ -1,4 +1,4 @@
--- `kept::drop_beaten` meets its contract.
+-- `list_keys::drop_beaten` meets its contract.
 -- Assumes nothing.
 use Rattle.list_keys.proofs.Passing.{drop-yes, drop-no}
 use borrow.Author.Needs.{needs}

@@ -1,4 +1,4 @@
--- `kept::drop_by` meets its contract.
+-- `list_keys::drop_by` meets its contract.
 -- Assumes nothing.
 use mathlib.Core.Path.{_≡_, refl, _∙_}
 use native.Mathlib.Omega.{arith}

@@ -1,4 +1,4 @@
--- `kept::drop_on` meets its contract.
+-- `list_keys::drop_on` meets its contract.
 -- Assumes nothing.
 use native.Mathlib.Omega.{arith}
 use Rattle.references.proofs.Places.{used-most}

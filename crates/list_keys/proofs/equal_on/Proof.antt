@@ -1,4 +1,4 @@
--- `kept::equal_on` meets its contract.
+-- `list_keys::equal_on` meets its contract.
 -- Assumes nothing.
 use Prim.Native.Nat.{_≤_, _-_}
 use mathlib.Core.Path.{_≡_, sym, _∙_}

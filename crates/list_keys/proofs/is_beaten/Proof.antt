@@ -1,4 +1,4 @@
--- `kept::is_beaten` meets its contract.
+-- `list_keys::is_beaten` meets its contract.
 -- Assumes nothing.
 use Prim.Native.Nat.{_-_}
 use mathlib.Core.Path.{refl, sym, _∙_}

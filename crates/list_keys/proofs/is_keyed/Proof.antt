@@ -1,4 +1,4 @@
--- `kept::is_keyed` meets its contract.
+-- `list_keys::is_keyed` meets its contract.
 -- Assumes nothing.
 use Rattle.list_keys.specs.Buckets.{keyed}
 use Rattle.list_keys.proofs.Keys.{not-both, and-then}

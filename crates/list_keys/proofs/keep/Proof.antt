@@ -1,4 +1,4 @@
--- `kept::keep` meets its contract.
+-- `list_keys::keep` meets its contract.
 -- Assumes nothing.
 use Prim.Native.Nat.{_≤_, _-_}
 use mathlib.Core.Path.{_≡_, refl, _∙_}

@@ -1,4 +1,4 @@
--- `kept::keep_of` meets its contract.
+-- `list_keys::keep_of` meets its contract.
 -- Assumes nothing.
 use Rattle.list_keys.proofs.Passing.{passed-both}
 use borrow.Author.Needs.{needs}

@@ -1,4 +1,4 @@
--- `kept::mark_of` meets its contract.
+-- `list_keys::mark_of` meets its contract.
 -- Assumes nothing.
 use mathlib.Core.Path.{sym, _∙_, ap}
 use Rattle.list_keys.proofs.Listed.{mark}

@@ -1,4 +1,4 @@
--- `kept::mix` meets its contract.
+-- `list_keys::mix` meets its contract.
 -- Assumes nothing.
 use Rattle.list_keys.proofs.Digests.{mix-none, mix-one}
 use borrow.Author.Needs.{needs}

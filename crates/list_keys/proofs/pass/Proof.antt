@@ -1,4 +1,4 @@
--- `kept::pass` meets its contract.
+-- `list_keys::pass` meets its contract.
 -- Assumes nothing.
 use mathlib.Core.Path.{refl, sym, _∙_}
 use native.Mathlib.Omega.{arith}

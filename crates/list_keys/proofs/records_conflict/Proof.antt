@@ -1,4 +1,4 @@
--- `kept::records_conflict` meets its contract.
+-- `list_keys::records_conflict` meets its contract.
 -- Assumes nothing.
 use native.Mathlib.Omega.{arith}
 use mathlib.Core.Path.{_∙_}

@@ -1,4 +1,4 @@
--- `shown::drop_record` meets its contract.
+-- `list_settled::drop_record` meets its contract.
 -- Assumes nothing.
 use mathlib.Core.Path.{sym, _∙_}
 use Rattle.list_settled.proofs.Rounds.{drop-yes, drop-no}

@@ -1,4 +1,4 @@
--- `shown::is_dropped` meets its contract.
+-- `list_settled::is_dropped` meets its contract.
 -- Assumes nothing.
 use Rattle.list_settled.proofs.Rounds.{stays-out, stays-in}
 use borrow.Author.Needs.{needs}

@@ -1,4 +1,4 @@
--- `shown::is_grounded` meets its contract.
+-- `list_settled::is_grounded` meets its contract.
 -- Assumes nothing.
 use Prim.Native.Nat.{_≤_, _-_}
 use mathlib.Core.Path.{_≡_, refl}

@@ -1,4 +1,4 @@
--- `shown::leads_on` meets its contract.
+-- `list_settled::leads_on` meets its contract.
 -- Assumes nothing.
 use mathlib.Core.Path.{ap}
 use mathlib.Core.Bool.{Bool, _||_, _&&_, not}

@@ -1,4 +1,4 @@
--- `shown::round` meets its contract.
+-- `list_settled::round` meets its contract.
 -- Assumes nothing.
 use Prim.Native.Nat.{_≤_, _-_}
 use mathlib.Core.Path.{_≡_, refl, _∙_}

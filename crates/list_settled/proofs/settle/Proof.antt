@@ -1,4 +1,4 @@
--- `shown::settle` meets its contract.
+-- `list_settled::settle` meets its contract.
 -- Assumes nothing.
 use Prim.Native.Nat.{ℕ, _≤_, _+_}
 use mathlib.Core.Path.{_≡_, refl, _∙_}

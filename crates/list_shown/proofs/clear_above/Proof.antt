@@ -1,4 +1,4 @@
--- `shown::clear_above` meets its contract.
+-- `list_shown::clear_above` meets its contract.
 -- Assumes nothing.
 use Prim.Native.Nat.{_≤_, _-_}
 use mathlib.Core.Path.{_≡_, refl}

@@ -1,4 +1,4 @@
--- `shown::count` meets its contract.
+-- `list_shown::count` meets its contract.
 -- Assumes nothing.
 use lib.ListN.{getD}
 use Prim.Native.Nat.{_≤_, _-_, _+_}

@@ -1,4 +1,4 @@
--- `shown::mark_shown` meets its contract.
+-- `list_shown::mark_shown` meets its contract.
 -- Assumes nothing.
 use Prim.Native.Nat.{_*_, _≤_}
 use native.Mathlib.Omega.{arith}

@@ -1,4 +1,4 @@
--- `shown::marks` meets its contract.
+-- `list_shown::marks` meets its contract.
 -- Assumes nothing.
 use Rattle.references.specs.Order.{Checked}
 use mathlib.Core.Path.{sym, _∙_}

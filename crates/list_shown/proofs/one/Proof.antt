@@ -1,4 +1,4 @@
--- `shown::one` meets its contract.
+-- `list_shown::one` meets its contract.
 -- Assumes nothing.
 use borrow.Author.Tests.{eq-eqb, ne-eqb}
 use Rattle.list_shown.proofs.one.Statement.{statement}

@@ -1,4 +1,4 @@
--- `shown::show` meets its contract.
+-- `list_shown::show` meets its contract.
 -- Assumes nothing.
 use native.Mathlib.Omega.{arith}
 use borrow.Author.Needs.{needs}

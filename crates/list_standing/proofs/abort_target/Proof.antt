@@ -1,4 +1,4 @@
--- `standing::abort_target` meets its contract.
+-- `list_standing::abort_target` meets its contract.
 -- Assumes nothing.
 use Prim.Native.Nat.{_*_, _+_, _-_}
 use native.Mathlib.Omega.{arith}

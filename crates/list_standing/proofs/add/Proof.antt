@@ -1,4 +1,4 @@
--- `standing::add` meets its contract.
+-- `list_standing::add` meets its contract.
 -- Assumes nothing.
 use native.Mathlib.Omega.{arith}
 use mathlib.Core.Path.{refl}

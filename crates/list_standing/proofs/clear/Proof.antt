@@ -1,4 +1,4 @@
--- `standing::clear` meets its contract.
+-- `list_standing::clear` meets its contract.
 -- Assumes nothing.
 use Prim.Native.Nat.{_≤_, _<_, _-_}
 use mathlib.Core.Path.{_≡_, refl}

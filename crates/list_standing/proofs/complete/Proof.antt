@@ -1,4 +1,4 @@
--- `standing::complete` meets its contract.
+-- `list_standing::complete` meets its contract.
 -- Assumes nothing.
 use Prim.Native.Nat.{ℕ, _+_, _≤_, _<_, _-_}
 use mathlib.Core.Path.{_≡_, sym, _∙_}

@@ -1,4 +1,4 @@
--- `standing::hop` meets its contract.
+-- `list_standing::hop` meets its contract.
 -- Assumes nothing.
 use Prim.Native.Nat.{_≤_}
 use native.Mathlib.Omega.{arith}

@@ -1,4 +1,4 @@
--- `standing::is_live` meets its contract.
+-- `list_standing::is_live` meets its contract.
 -- Assumes nothing.
 use Rattle.list_standing.proofs.Fields.{live-is}
 use borrow.Author.Needs.{needs}

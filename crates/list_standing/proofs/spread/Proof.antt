@@ -1,4 +1,4 @@
--- `standing::spread` meets its contract.
+-- `list_standing::spread` meets its contract.
 -- Assumes nothing.
 use Prim.Native.Nat.{_≤_, _-_}
 use native.Mathlib.Omega.{arith}

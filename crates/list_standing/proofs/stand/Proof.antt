@@ -1,4 +1,4 @@
--- `standing::stand` meets its contract.
+-- `list_standing::stand` meets its contract.
 -- Assumes nothing.
 use mathlib.Core.Path.{refl}
 use Rattle.list_standing.proofs.Work.{clear-to, long-as}

@@ -1,4 +1,4 @@
--- `standing::start_one` meets its contract.
+-- `list_standing::start_one` meets its contract.
 -- Assumes nothing.
 use native.Mathlib.Omega.{arith}
 use mathlib.Core.Path.{sym, _∙_}

@@ -1,4 +1,4 @@
--- `standing::visit` meets its contract.
+-- `list_standing::visit` meets its contract.
 -- Assumes nothing.
 use Prim.Native.Nat.{_≤_, _-_}
 use native.Mathlib.Omega.{arith}

@@ -1,4 +1,4 @@
--- `text::copy` meets its contract.
+-- `list_text::copy` meets its contract.
 -- Assumes nothing.
 use Prim.Native.Nat.{_≤_, _-_}
 use native.Mathlib.Omega.{arith}

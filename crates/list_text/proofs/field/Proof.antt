@@ -1,4 +1,4 @@
--- `text::field` meets its contract.
+-- `list_text::field` meets its contract.
 -- Assumes nothing.
 use Rattle.list_text.proofs.Laying.{then}
 use borrow.Author.Needs.{needs}

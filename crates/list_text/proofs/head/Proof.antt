@@ -1,4 +1,4 @@
--- `text::head` meets its contract.
+-- `list_text::head` meets its contract.
 -- Assumes nothing.
 use Rattle.list_text.proofs.Fields.{placed-head}
 use borrow.Author.Needs.{needs}

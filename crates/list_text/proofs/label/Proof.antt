@@ -1,4 +1,4 @@
--- `text::label` meets its contract.
+-- `list_text::label` meets its contract.
 -- Assumes nothing.
 use Rattle.list_text.proofs.Fields.{placed-label}
 use borrow.Author.Needs.{needs}

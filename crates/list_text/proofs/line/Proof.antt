@@ -1,4 +1,4 @@
--- `text::line` meets its contract.
+-- `list_text::line` meets its contract.
 -- Assumes nothing.
 use Rattle.list_text.proofs.Fields.{placed-line}
 use borrow.Author.Needs.{needs}

@@ -1,4 +1,4 @@
--- `text::lines` meets its contract.
+-- `list_text::lines` meets its contract.
 -- Assumes nothing.
 use native.Mathlib.Omega.{arith}
 use Rattle.list_text.proofs.Laying.{Leads}

@@ -1,4 +1,4 @@
--- `text::put` meets its contract.
+-- `list_text::put` meets its contract.
 -- Assumes nothing.
 use borrow.Author.Needs.{needs}
 use Rattle.list_text.proofs.Laying.{one-fits, one-out}

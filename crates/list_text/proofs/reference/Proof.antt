@@ -1,4 +1,4 @@
--- `text::reference` meets its contract.
+-- `list_text::reference` meets its contract.
 -- Assumes nothing.
 use Rattle.list_text.proofs.Fields.{placed-empty, placed-reference}
 use borrow.Author.Needs.{needs}

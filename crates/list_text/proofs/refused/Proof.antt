@@ -1,4 +1,4 @@
--- `text::refused` meets its contract.
+-- `list_text::refused` meets its contract.
 -- Assumes nothing.
 use Rattle.list_text.specs.Text.{refusedText}
 use borrow.Author.Needs.{needs}

@@ -1,4 +1,4 @@
--- `text::shown` meets its contract.
+-- `list_text::shown` meets its contract.
 -- Assumes nothing.
 use Rattle.list_text.specs.Text.{shownText}
 use Rattle.list_text.proofs.Laying.{then}

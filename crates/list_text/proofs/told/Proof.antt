@@ -1,4 +1,4 @@
--- `text::told` meets its contract.
+-- `list_text::told` meets its contract.
 -- Assumes nothing.
 use Rattle.list_text.proofs.Fields.{placed-told}
 use borrow.Author.Needs.{needs}

@@ -1,4 +1,4 @@
--- `text::value` meets its contract.
+-- `list_text::value` meets its contract.
 -- Assumes nothing.
 use Rattle.list_text.proofs.Fields.{placed-plain, placed-kind}
 use borrow.Author.Needs.{needs}

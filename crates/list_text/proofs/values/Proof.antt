@@ -1,4 +1,4 @@
--- `text::values` meets its contract.
+-- `list_text::values` meets its contract.
 -- Assumes nothing.
 use Prim.Native.Nat.{_≤_, _-_}
 use mathlib.Core.Path.{_≡_}

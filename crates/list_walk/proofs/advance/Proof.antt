@@ -1,4 +1,4 @@
--- `walk::advance` meets its contract.
+-- `list_walk::advance` meets its contract.
 -- Assumes nothing.
 use Rattle.list_walk.proofs.Steps.{place-after}
 use borrow.Author.Needs.{needs}

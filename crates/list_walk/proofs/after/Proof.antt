@@ -1,4 +1,4 @@
--- `walk::after` meets its contract.
+-- `list_walk::after` meets its contract.
 -- Assumes nothing.
 use mathlib.Core.Path.{sym, _∙_}
 use Rattle.model.specs.Tables.{decode}

@@ -1,4 +1,4 @@
--- `walk::goes_on` meets its contract.
+-- `list_walk::goes_on` meets its contract.
 -- Assumes nothing.
 use mathlib.Core.Path.{refl, ap}
 use mathlib.Core.Bool.{not}

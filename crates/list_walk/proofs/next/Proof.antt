@@ -1,4 +1,4 @@
--- `walk::next` meets its contract: a walk of its MIR, by hand. The borrow of the place is
+-- `list_walk::next` meets its contract: a walk of its MIR, by hand. The borrow of the place is
 -- opened, `advance` is called on the three slices and the number, the new number is stored, and the borrow is closed.
 -- Assumes nothing.
 use mathlib.Core.Path.{_≡_, refl, ap, subst}

@@ -1,4 +1,4 @@
--- `walk::next_index` meets its contract.
+-- `list_walk::next_index` meets its contract.
 -- Assumes nothing.
 use Rattle.list_walk.proofs.Cursor.{zero-pick, more-pick}
 use borrow.Author.Needs.{needs}

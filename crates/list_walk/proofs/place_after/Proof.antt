@@ -1,4 +1,4 @@
--- `walk::place_after` meets its contract.
+-- `list_walk::place_after` meets its contract.
 -- Assumes nothing.
 use mathlib.Core.Path.{refl}
 use Rattle.list_walk.proofs.Cursor.{zero-pick, more-pick}

@@ -1,4 +1,4 @@
--- `walk::step` meets its contract.
+-- `list_walk::step` meets its contract.
 -- Assumes nothing.
 use mathlib.Core.Path.{sym, _∙_}
 use borrow.Author.Tests.{not-true, not-false}

@@ -1,4 +1,4 @@
--- `walk::wrong_length` meets its contract.
+-- `list_walk::wrong_length` meets its contract.
 -- Assumes nothing.
 use Rattle.list_walk.proofs.Steps.{wrong-is}
 use borrow.Author.Needs.{needs}

@@ -1,4 +1,4 @@
--- `marking::is_marked` meets its contract.
+-- `marks::is_marked` meets its contract.
 -- Assumes nothing.
 use native.Mathlib.Omega.{arith}
 use Rattle.marks.proofs.Marks.{marked-none, marked-past, marked-here}

@@ -1,4 +1,4 @@
--- `resolved::blank` meets its contract.
+-- `references::blank` meets its contract.
 -- Assumes nothing.
 use Prim.Native.Nat.{_≤_, _<_, _-_}
 use mathlib.Core.Path.{_≡_, refl}

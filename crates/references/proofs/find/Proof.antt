@@ -1,4 +1,4 @@
--- `resolved::find` meets its contract.
+-- `references::find` meets its contract.
 -- Assumes nothing.
 use mathlib.Core.Path.{refl}
 use Rattle.references.proofs.Parts.{found-past, found-here, found-none}

@@ -1,4 +1,4 @@
--- `resolved::key_at` meets its contract.
+-- `references::key_at` meets its contract.
 -- Assumes nothing.
 use native.Mathlib.Omega.{arith}
 use Rattle.model.specs.Tables.{recordOf}

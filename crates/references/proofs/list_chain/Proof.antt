@@ -1,4 +1,4 @@
--- `resolved::list_chain` meets its contract.
+-- `references::list_chain` meets its contract.
 -- Assumes nothing.
 use Prim.Native.Nat.{ℕ, _≤_, _<_, _-_}
 use mathlib.Core.List.{List}

@@ -1,4 +1,4 @@
--- `resolved::list_records` meets its contract.
+-- `references::list_records` meets its contract.
 -- Assumes nothing.
 use Prim.Native.Nat.{_≤_, _+_, _-_}
 use mathlib.Core.Path.{_≡_, refl, _∙_}

@@ -1,4 +1,4 @@
--- `resolved::lower` meets its contract.
+-- `references::lower` meets its contract.
 -- Assumes nothing.
 use Prim.Native.Nat.{_/_, _-_}
 use mathlib.Core.Path.{refl}

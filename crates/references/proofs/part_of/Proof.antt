@@ -1,4 +1,4 @@
--- `resolved::part_of` meets its contract.
+-- `references::part_of` meets its contract.
 -- Assumes nothing.
 use mathlib.Core.Path.{refl}
 use native.Mathlib.Omega.{arith}

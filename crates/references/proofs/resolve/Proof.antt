@@ -1,4 +1,4 @@
--- `resolved::resolve` meets its contract.
+-- `references::resolve` meets its contract.
 -- Assumes nothing.
 use mathlib.Core.Path.{refl}
 use native.Mathlib.Omega.{arith}

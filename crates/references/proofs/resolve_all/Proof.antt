@@ -1,4 +1,4 @@
--- `resolved::resolve_all` meets its contract.
+-- `references::resolve_all` meets its contract.
 -- Assumes nothing.
 use Prim.Native.Nat.{ℕ, _+_, _*_, _-_, _≤_, _<_}
 use mathlib.Core.Path.{_≡_, refl}

@@ -1,4 +1,4 @@
--- `resolved::resolve_by` meets its contract.
+-- `references::resolve_by` meets its contract.
 -- Assumes nothing.
 use Prim.Native.Nat.{_+_, _*_, _≤_, _-_}
 use mathlib.Core.Path.{_≡_, refl, _∙_}

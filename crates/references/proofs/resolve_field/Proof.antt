@@ -1,4 +1,4 @@
--- `resolved::resolve_field` meets its contract.
+-- `references::resolve_field` meets its contract.
 -- Assumes nothing.
 use native.Mathlib.Omega.{arith}
 use Rattle.references.proofs.Refs.{fill-plain, leads-by, filled-by}

@@ -1,4 +1,4 @@
--- `resolved::resolve_one` meets its contract.
+-- `references::resolve_one` meets its contract.
 -- Assumes nothing.
 use Rattle.references.proofs.Refs.{value-below, target-small, resolved-empty, resolved-absent, resolved-there}
 use borrow.Author.Needs.{needs}
