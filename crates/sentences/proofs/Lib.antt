@@ -1,0 +1,4 @@
+pub mod Examples
+pub mod Refusals
+pub mod Shown
+pub mod Edges
