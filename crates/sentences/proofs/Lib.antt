@@ -1,3 +1,4 @@
+pub mod Labels
 pub mod Examples
 pub mod Refusals
 pub mod Shown
