@@ -1,7 +1,10 @@
 -- What each case of an answer tells: the number of document 01, "What a call hands back", and the value handed back beside it, which is the new
--- label of an insertion, the shown count of marks and the index given by a walk, and 0 elsewhere.
+-- label of an insertion, the shown count of marks and the index given by a walk, and 0 elsewhere; of a walk also whether the list ended. What is told
+-- determines the answer (proofs/Determined.antt).
 -- Assumes nothing.
 use Prim.Native.Nat.{ℕ}
+use mathlib.Core.Bool.{Bool, true, false}
+use mathlib.Core.Path.{_≡_}
 use Rattle.answers.specs.declared.SchemaAnswer.{SchemaAnswer}
 use Rattle.answers.specs.declared.SchemaAnswer.the-variants as schema
 use Rattle.answers.specs.declared.TableAnswer.{TableAnswer}
@@ -24,9 +27,17 @@ use Rattle.answers.specs.declared.DeletionAnswer.the-variants as deletio
 pub record Told : Type 0 where
   pub number : ℕ
   pub value : ℕ
+  pub ended : Bool
+
+abbrev pub toldEnded : ℕ → ℕ → Bool → Told
+toldEnded n v e = record { number = n; value = v; ended = e }
 
 abbrev pub told : ℕ → ℕ → Told
-told n v = record { number = n; value = v }
+told n v = toldEnded n v false
+
+-- Equal told means equal answer.
+abbrev pub Determined : {A : Type 0} → (A → Told) → Type 0
+Determined {A} f = (a b : A) → f a ≡ f b → a ≡ b
 
 abbrev pub schemaTold : SchemaAnswer → Told
 schemaTold schema.Good = told 0 0
@@ -60,7 +71,7 @@ marksTold marks.TableBroken = told 3 0
 
 abbrev pub walkTold : WalkAnswer → Told
 walkTold (walk.Given v) = told 0 v
-walkTold walk.End = told 0 0
+walkTold walk.End = toldEnded 0 0 true
 walkTold walk.WrongLength = told 1 0
 walkTold walk.SchemaBroken = told 2 0
 walkTold walk.TableBroken = told 3 0

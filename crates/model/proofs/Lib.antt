@@ -1,2 +1,4 @@
 pub mod Cases
 pub mod Examples
+pub mod Runs
+pub mod Meaning

@@ -116,6 +116,10 @@ walkGiven s t m p =
     let v = decode t in
     done (walkNumber s t m p) (position (leastAbove (placeKey v p) (marked m (v .records))) (v .records)) 0
 
+-- "an end of the list walk is answered only past the last shown record": whether it is the end that is answered.
+unfoldable pub walkEnded : List ℕ → List ℕ → List ℕ → ℕ → Bool
+walkEnded s t m p = done (walkNumber s t m p) (eqb (walkGiven s t m p) 0) false
+
 -- "At the end the place doesn't move."
 unfoldable pub walkPlace : List ℕ → List ℕ → List ℕ → ℕ → ℕ
 walkPlace s t m p = cond (eqb (walkGiven s t m p) 0) p (walkGiven s t m p)

@@ -1,12 +1,12 @@
 -- The table of cases (document 01, "Table of cases"): C1 to C12, as data, with what must come back.
 -- Assumes nothing.
-use Prim.Native.Nat.{ℕ, _+_, _*_, _-_, max}
+use Prim.Native.Nat.{ℕ, _+_, _*_, _-_}
 use mathlib.Core.Bool.{Bool, true, false, _&&_}
 use mathlib.Core.List.{List, [], _∷_, _++_}
 use lib.Dec.{eqb}
 use lib.ListN.{length, replicate}
 use Rattle.crdt.specs.Labels.{labelOf}
-use Rattle.crdt.specs.Cells.{Reg, reg, joinReg}
+use Rattle.crdt.specs.Cells.{Reg, reg, joinReg, joinCell}
 use Rattle.model.specs.Layout.{fields, mostRelations, blockWords, deltaWords, capacityOf}
 use Rattle.model.specs.Lists.{all-of}
 use Rattle.model.specs.Calls.{schemaNumber, tableNumber, marksNumber, marksCount, marksMarks, Entry, shownList, deletionNumber, deletionTable, deletionDelta}
@@ -147,7 +147,7 @@ lists t m l =
 
 unfoldable pub holds : Case → Bool
 holds (registers a b c) = eqb (joinReg a b .value) (c .value) && eqb (joinReg a b .stamp) (c .stamp)
-holds (flags a b c) = eqb (max a b) c
+holds (flags a b c) = eqb (joinCell (record { flag = a; regs = [] }) (record { flag = b; regs = [] }) .flag) c
 holds (shows t m l) = lists t m l
 holds (deletes t i t′ d m l) =
     let zeros : List ℕ = replicate deltaWords 0 in

@@ -30,13 +30,19 @@ answers first [] = []
 answers first (c ∷ cs) = answerOf first (history first cs) c ∷ answers first cs
 
 -- Words of capacity N before the start.
-blank : ℕ → List ℕ
+unfoldable pub blank : ℕ → List ℕ
 blank n = replicate (headerWords + recordWords * n) 7
 
 -- Four tables, tables 0 and 2 with one replica number: capacities 4, 4, 3 and 2.
-unfoldable pub first : Moment
+unfoldable pub blanks : ℕ → List ℕ
 unfolding blank
-first = begun (λ i. blank (cond (eqb i 3) 2 (cond (eqb i 2) 3 4))) (λ i. cond (eqb i 1) 2 1)
+blanks i = cond (eqb i 3) (blank 2) (cond (eqb i 2) (blank 3) (blank 4))
+
+abbrev pub replicas : ℕ → ℕ
+replicas i = cond (eqb i 1) 2 1
+
+abbrev pub first : Moment
+first = begun blanks replicas
 
 -- The delta buffer, "all zero when a program first makes it".
 buffer : List ℕ
@@ -58,10 +64,16 @@ heifer = labelOf 3 2
 
 -- The calls, the last one first.
 unfoldable pub calls : List Call
-unfolding buffer
+unfolding blank buffer
 calls =
+    -- words that the merge refuses: a table of no records whose header is damaged
+    merge 0 herd (words (blank 0))
+    -- refused edits: a tag that is taken, a cow that is not shown, a group that the heifer references
+    ∷ insertion 1 herd buffer 2 (42 ∷ group ∷ [])
+    ∷ update 1 herd buffer 2 1 43
+    ∷ deletion 1 herd buffer 1
     -- an insertion lent another schema, under which the table is not well-formed
-    insertion 0 other buffer 1 (5 ∷ [])
+    ∷ insertion 0 other buffer 1 (5 ∷ [])
     -- table 1 as it stands into table 0; into table 3, which has no room
     ∷ merge 0 herd (copy 0 1)
     ∷ merge 3 herd (copy 0 1)
@@ -89,7 +101,7 @@ calls =
     ∷ insertion 0 herd buffer 1 (12 ∷ []) ∷ []
 
 unfoldable pub expected : List ℕ
-expected = 3 ∷ 0 ∷ 11 ∷ 0 ∷ 0 ∷ 0 ∷ 0 ∷ 0 ∷ 0 ∷ 0 ∷ 0 ∷ 0 ∷ 0 ∷ 0 ∷ 0 ∷ []
+expected = 4 ∷ 9 ∷ 6 ∷ 10 ∷ 3 ∷ 0 ∷ 11 ∷ 0 ∷ 0 ∷ 0 ∷ 0 ∷ 0 ∷ 0 ∷ 0 ∷ 0 ∷ 0 ∷ 0 ∷ 0 ∷ 0 ∷ []
 
 unfoldable pub sameRegs : List Reg → List Reg → Bool
 sameRegs [] [] = true
@@ -123,11 +135,19 @@ agree m i j =
     && eqb (usedAt (m .fleet i)) 3 && eqb (usedAt (m .fleet j)) 3
     && eqb (tableNumber herd (m .fleet i)) 0 && eqb (tableNumber herd (m .fleet j)) 0
 
--- The run does what it should: every answer, and tables 0, 1 and 2 agree.
+-- The end of the run.
+abbrev pub atEnd : Moment
+atEnd = ago first (history first calls) 0
+
+-- The edits that the tables took in, by their places in the list: 1 the group, 3 and 4 the cows, 5 and 7 the deletions, 8 the update. Table 3 took in none.
+unfoldable pub tookAtEnd : Bool
+tookAtEnd =
+    sameWords (atEnd .took 0) (1 ∷ 5 ∷ 1 ∷ 3 ∷ 4 ∷ 1 ∷ 5 ∷ 7 ∷ 8 ∷ []) && sameWords (atEnd .took 1) (1 ∷ 3 ∷ 4 ∷ 1 ∷ 5 ∷ 7 ∷ 8 ∷ [])
+    && sameWords (atEnd .took 2) (8 ∷ 8 ∷ 1 ∷ 3 ∷ 4 ∷ 1 ∷ 5 ∷ 7 ∷ []) && sameWords (atEnd .took 3) []
+
+-- The run does what it should: every answer, every edit taken in, and tables 0, 1 and 2 agree.
 unfoldable pub runs : Bool
-runs =
-    let m = ago first (history first calls) 0 in
-    sameWords (answers first calls) expected && agree m 0 1 && agree m 1 2
+runs = sameWords (answers first calls) expected && tookAtEnd && agree atEnd 0 1 && agree atEnd 1 2
 
 -- A second run: positions that are not in list order. Tables 0 and 1 insert a cow each and merge; table 1 then inserts a group, and table 2 merges
 -- table 1. Of the calls the last one stands first.
@@ -185,3 +205,23 @@ lastClock =
     let t = header largestCounter 1 (1 ∷ []) ++ (row 0 1 g 0 (12 ∷ []) (g ∷ []) ++ replicate recordWords 0) in
     eqb (tableNumber herd t) 0 && eqb (insertionNumber herd t buffer 3 (labelOf 9 9 ∷ 5 ∷ [])) 8 && eqb (insertionNumber herd t buffer 1 (12 ∷ [])) 9
     && eqb (insertionNumber herd t buffer 1 (13 ∷ [])) 12
+
+-- Three tables of capacity 2 for the laws of merge: a group; the same group deleted, and a cow in it; two other groups.
+unfoldable pub ofGroup : List ℕ
+unfolding header row
+ofGroup = header 1 1 (1 ∷ []) ++ (row 0 1 group 0 (12 ∷ []) (group ∷ []) ++ replicate recordWords 0)
+
+unfoldable pub ofCow : List ℕ
+unfolding header row
+ofCow = header 2 2 (1 ∷ 2 ∷ []) ++ (row 0 1 group 1 (12 ∷ []) (group ∷ []) ++ row 0 2 cow 0 (40 ∷ group ∷ []) (cow ∷ cow ∷ []))
+
+unfoldable pub ofGroups : List ℕ
+unfolding header row
+ofGroups = header 3 2 (1 ∷ []) ++ (row 2 1 cow 0 (13 ∷ []) (cow ∷ []) ++ row 0 1 heifer 0 (14 ∷ []) (heifer ∷ []))
+
+-- Lists that demand 3 rules out: two groups of one name, and a cow in a group that is not in the list.
+abbrev pub twoAlike : List Entry
+twoAlike = record { relation = 1; label = group; values = 12 ∷ [] } ∷ record { relation = 1; label = cow; values = 12 ∷ [] } ∷ []
+
+abbrev pub dangling : List Entry
+dangling = record { relation = 2; label = cow; values = 40 ∷ group ∷ [] } ∷ []

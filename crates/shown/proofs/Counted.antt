@@ -22,13 +22,13 @@ use Rattle.crdt.proofs.Tests.{Tri, low, same, high, tri, and-left, and-right}
 use borrow.Author.Tests.{eqb-true}
 use Rattle.laws.proofs.Lists.{_∈_, only-in, in-only}
 use Rattle.laws.proofs.Order.{order-rising, order-length}
-use Rattle.laws.proofs.Members.{read-in-order}
+use Rattle.laws.proofs.Members.{read-in-order, in-order, order-in}
 use Rattle.laws.proofs.Merge.{only-distinct}
 use Rattle.encoded.proofs.Follow.{noRec}
 use Rattle.encoded.proofs.Ranges.{listed-length, listed-at}
 use Rattle.decoded.proofs.Facts.{formed}
 use Rattle.listing.proofs.Rising.{Few, shown-few}
-use Rattle.marking.proofs.Members.{records-once, in-order, order-in, in-record, held}
+use Rattle.marking.proofs.Members.{records-once, in-record, held}
 use Rattle.laws.proofs.Shown.{in-has}
 use Rattle.kept.proofs.Listed.{mark}
 use Rattle.resolved.specs.Resolved.{Marked}

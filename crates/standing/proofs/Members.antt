@@ -19,7 +19,7 @@ use Rattle.model.specs.Tables.{decode, recordOf}
 use Rattle.model.specs.Shown.{complete, live, standing}
 use Rattle.laws.proofs.Lists.{_∈_}
 use Rattle.laws.proofs.Order.{order-rising, at-order}
-use Rattle.laws.proofs.Members.{at-member, rising-distinct}
+use Rattle.laws.proofs.Members.{at-member, rising-distinct, one-key, in-order}
 use Rattle.laws.proofs.Valid.{distinct-true}
 use Rattle.laws.proofs.Drafts.{has-order}
 use Rattle.laws.proofs.Shown.{has-in, in-has, standing-in, standing-live, standing-closed}
@@ -31,18 +31,8 @@ use Rattle.standing.specs.Work.{standingOf}
 use Rattle.standing.proofs.Fields.{target-in}
 
 -- two records of one key, of records and of them in order
-rec-same : (k k′ : ℕ) (c c′ : Cell) → k ≡ k′ → c ≡ c′ → _≡_ {A = Rec} (record { key = k; cell = c }) (record { key = k′; cell = c′ })
-rec-same k k′ c c′ a b = rw (a, b)
-
-some-same : (c d : Cell) → _≡_ {A = Option Cell} (some c) (some d) → c ≡ d
-some-same c d e = cc
-
 one-record : (s : List Rec) (x y : Rec) → Distinct s → x ∈ s → y ∈ inOrder s → x .key ≡ y .key → x ≡ y
-one-record s x y d hx hy e =
-    let a = at-member s x d hx in
-    let b = at-member (inOrder s) y (rising-distinct 0 (inOrder s) (order-rising s)) hy in
-    let c : at (x .key) s ≡ at (y .key) (inOrder s) = rw e (sym (at-order (y .key) s)) in
-    rec-same (x .key) (y .key) (x .cell) (y .cell) e (some-same (x .cell) (y .cell) (sym a ∙ c ∙ b))
+one-record s x y d hx hy e = one-key s d x y hx (in-order s d y hy) e
 
 getD-in : {A : Type 0} (l : List A) (n : ℕ) (d : A) → n < length l → getD l n d ∈ l
 getD-in [] n d h = absurd (omega arith)

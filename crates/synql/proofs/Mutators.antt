@@ -34,7 +34,7 @@ use Rattle.synql.specs.Synql.{Map, Tuple, RDb, joinBottom, joinMap, join
 use Rattle.synql.specs.Synql as paper
 use Rattle.synql.specs.Database.{stampedReg, fieldMap, tupleOf, tupleOpt, database, valuesMap, chosen}
 use Rattle.synql.proofs.Primitives.{delete-is-7, redo-is-8}
-use Rattle.synql.proofs.State.{stamp-none, stamp-some, split-state, one-state, order-state}
+use Rattle.synql.proofs.State.{stamp-none, stamp-some, split-state, one-state, order-state, key-place, tuple-at}
 
 -- no registers are no fields
 none-at : (n j : ℕ) → getD (replicate n noReg) j noReg ≡ noReg
@@ -170,10 +170,6 @@ drafted : (w : ℕ) (v : Table) (e : Edit) (x : Rec) (ks : List ℕ) (m : RDb) �
 unfolding deltaOf
 drafted w v e x ks m c d h = rw c (split-state x (redoing w (inOrder (v .records)) ks) ∙ rw (d, redoing-compensates w (v .records) ks h))
 
--- a key is the place of its relation and label
-pub key-place : (k : ℕ) → place (k / labelSpan) (k % labelSpan) ≡ k
-key-place k = omega arith
-
 one-tuple : (k : ℕ) (c : Cell) → database (record { key = k; cell = c } ∷ []) ≡ single (k / labelSpan) (k % labelSpan) (tupleOf c)
 one-tuple k c = let e = one-state (k / labelSpan) (k % labelSpan) c (omega arith) in rw (key-place k) at e
 
@@ -223,11 +219,8 @@ module _ {w : ℕ} {σ : List Relation} (narrow : (r : ℕ) → length (relation
       let p = passed _ refl h in
       drafted w v (deletion w σ v i) (flagOnly w (recordAt v i .key) (deleted (recordAt v i .cell .flag))) _ _ refl (flag-tuple (recordAt v i) m) (flags-below narrow few v good _ (p .1 .1 .0))
     where
-      lookup : (x : Rec) → x ∈ v .records → database (v .records) (relation x) (label x) ≡ some (tupleOf (x .cell))
-      lookup x m = unfold database in (let l : label x < labelSpan = omega arith in rw (lt-ltb (label x) labelSpan l, key-place (x .key)) (ap tupleOpt (at-member (v .records) x (good .distinct) m)))
-
       raised : (x : Rec) → x ∈ v .records → deleted (x .cell .flag) ≡ enable (paper.flagIn (database (v .records) (relation x) (label x)))
-      raised x m = delete-is-7 (x .cell .flag) (good .records x m .flagged) ∙ ap enable (sym (ap paper.flagIn (lookup x m) ∙ unfold tupleOf in refl))
+      raised x m = delete-is-7 (x .cell .flag) (good .records x m .flagged) ∙ ap enable (sym (ap paper.flagIn (tuple-at (v .records) x (good .distinct) m) ∙ unfold tupleOf in refl))
 
       flag-tuple : (x : Rec) → x ∈ v .records → database (flagOnly w (x .key) (deleted (x .cell .flag)) ∷ []) ≡ del (database (v .records)) (relation x) (label x)
       flag-tuple x m = unfold flagOnly in (one-tuple (x .key) _ ∙ ap (single (relation x) (label x)) (unfold tupleOf in λ i. record { fields = no-fields w i; flag = raised x m i }))

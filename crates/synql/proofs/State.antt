@@ -13,9 +13,11 @@ use borrow.Author.Tests.{eqb-true, eqb-false, ltb-true, ltb-false, leb-true, lt-
 use Rattle.crdt.specs.Cells.{Reg, reg, noReg, Cell, upTo, joinReg, joinRegs, joinCell, joinOpt}
 use Rattle.crdt.proofs.Tests.{Tri, low, same, high, tri, test, and-left, and-right}
 use Rattle.crdt.proofs.Order.{join-later, join-earlier}
-use Rattle.model.specs.Records.{Rec, labelSpan, place, own, at, inOrder}
+use Rattle.model.specs.Records.{Rec, labelSpan, place, relation, label, own, at, inOrder, Distinct}
 use Rattle.model.specs.Merge.{mergedRecords}
+use Rattle.laws.proofs.Lists.{_∈_}
 use Rattle.laws.proofs.Order.{at-order}
+use Rattle.laws.proofs.Members.{at-member}
 use Rattle.laws.proofs.Join.{opt-none}
 use Rattle.laws.proofs.Merge.{at-merged}
 use Rattle.synql.specs.Synql.{Map, Tuple, RDb, joinBottom, joinMap, joinTuple, joinDb, single, noFields, wr, wrOpt, ins, updated}
@@ -151,3 +153,12 @@ one-state r l c h = fun-ext λ q. fun-ext λ u. go q u (test (ltb u labelSpan)) 
     go q u (inr p) s =
         let m : labelSpan ≤ u = ltb-false u labelSpan p in
         rw (p, apart q u (λ e. absurd (omega (arith, e .1))))
+
+-- a key is the place of its relation and label
+pub key-place : (k : ℕ) → place (k / labelSpan) (k % labelSpan) ≡ k
+key-place k = omega arith
+
+-- the tuple of a record
+pub tuple-at : (a : List Rec) (x : Rec) → Distinct a → x ∈ a → database a (relation x) (label x) ≡ some (tupleOf (x .cell))
+unfolding database
+tuple-at a x d m = let l : label x < labelSpan = omega arith in rw (lt-ltb (label x) labelSpan l, key-place (x .key)) (ap tupleOpt (at-member a x d m))

@@ -1,2 +1,3 @@
 pub mod Synql
 pub mod Database
+pub mod Examples

@@ -66,7 +66,7 @@ joinTuple j a b = record { fields = joinMap j (a .fields) (b .fields); flag = jo
 abbrev pub joinDb : (Reg → Reg → Reg) → RDb → RDb → RDb
 joinDb j m n r t = joinBottom (joinTuple j) (m r t) (n r t)
 
--- (13) "read": the registers and the flags evaluated
+-- (13) "read": the registers, by (2), and the flags, by (6), evaluated
 pub record ReadTuple : Type 0 where
   pub values : Map ℕ
   pub deleted : Bool
@@ -113,15 +113,46 @@ updated t r u f v = single r u (record { fields = λ g. cond (eqb g f) (some (wr
 unfoldable pub compensation : RDb → (ℕ → ℕ → Bool) → RDb
 compensation db chosen r t = cond (chosen r t) (some (record { fields = noFields; flag = disable (flagIn (db r t)) })) none
 
--- "A compensation is applied in two cases": which tuples it marks as non-deleted, of their identifiers. (i) "the deletion or the update of a foreign key
--- that uses an abort semantic": "all tuples that are referenced by the reference .. if those tuples are also referenced by a tuple not marked as
--- deleted".
-abbrev pub caseOne : (ℕ → ℕ) → (ℕ → Bool) → (ℕ → Bool) → ℕ → Bool
-caseOne flagOf referenced live k = referenced k && live k && enabled (flagOf k)
+-- "A compensation is applied in two cases": which tuples it marks as non-deleted. The foreign keys of a schema are given by relation and field: the
+-- relation referred to, none where the field is no foreign key. What is asked of the database is asked of what (13) reads.
+abbrev pub ForeignKeys : Type 0
+ForeignKeys = ℕ → ℕ → Option ℕ
+
+-- The tuple u of relation q, marked as deleted.
+abbrev pub MarkedDeleted : RDb → ℕ → ℕ → Type 0
+MarkedDeleted db q u = (x : ReadTuple) × (read db q u ≡ some x) × (x .deleted ≡ true)
+
+-- The tuple u of relation q is referenced by field f of the tuple t of relation r.
+abbrev pub ReferencedBy : ForeignKeys → RDb → ℕ → ℕ → ℕ → ℕ → ℕ → Type 0
+ReferencedBy keys db r t f q u = (x : ReadTuple) × (read db r t ≡ some x) × (keys r f ≡ some q) × (x .values f ≡ some u)
+
+-- The same by some field.
+abbrev pub Referenced : ForeignKeys → RDb → ℕ → ℕ → ℕ → ℕ → Type 0
+Referenced keys db r t q u = (f : ℕ) × ReferencedBy keys db r t f q u
+
+-- "also referenced by a tuple not marked as deleted": by another than the tuple t of relation r, whose reference it is (figures 20 and 21).
+pub record AlsoReferenced (keys : ForeignKeys) (db : RDb) (r t q u : ℕ) : Type 0 where
+  pub relation : ℕ
+  pub tuple : ℕ
+  pub field : ℕ
+  pub holds : ReadTuple
+  pub another : (relation ≡ r) × (tuple ≡ t) → ⊥
+  pub present : read db relation tuple ≡ some holds
+  pub unmarked : holds .deleted ≡ false
+  pub refers : keys relation field ≡ some q
+  pub value : holds .values field ≡ some u
+
+-- (i) "the deletion or the update of a foreign key that uses an abort semantic": "all tuples that are referenced by the reference .. if those tuples are
+-- also referenced by a tuple not marked as deleted". The reference is that of the tuple t of relation r.
+pub record CaseOne (keys : ForeignKeys) (db : RDb) (reference : ℕ → ℕ → Type 0) (r t q u : ℕ) : Type 0 where
+  pub referenced : reference q u
+  pub marked : MarkedDeleted db q u
+  pub also : AlsoReferenced keys db r t q u
 
 -- (ii) "the insertion of a tuple which references another tuple marked as deleted but present in the database state": all tuples referenced by it.
-abbrev pub caseTwo : (ℕ → ℕ) → (ℕ → Bool) → ℕ → Bool
-caseTwo flagOf referenced k = referenced k && enabled (flagOf k)
+pub record CaseTwo (db : RDb) (reference : ℕ → ℕ → Type 0) (q u : ℕ) : Type 0 where
+  pub referenced : reference q u
+  pub marked : MarkedDeleted db q u
 
 -- The four steps, over any type of tuples: which are in the replicated state, which are marked as deleted, the identifier of a tuple, the identifiers
 -- that it references with abort semantic and at all, which conflict, and which is older.

@@ -5,9 +5,9 @@ use mathlib.Core.Path.{_≡_, refl, sym, _∙_, ap}
 use mathlib.Core.Bool.{Bool, true, false, cond, _||_, _&&_, not}
 use mathlib.Core.List.{List}
 use lib.Dec.{eqb, ltb}
-use borrow.Author.Tests.{ltb-false, not-false}
+use borrow.Author.Tests.{ltb-false, ne-eqb, not-false}
 use Rattle.crdt.proofs.Tests.{or-false, and-left, and-right}
-use Rattle.answers.specs.Told.{Told, told}
+use Rattle.answers.specs.Told.{Told, told, toldEnded}
 use Rattle.model.specs.Layout.{capacityOf, usedAt}
 use Rattle.model.specs.Lists.{lowest}
 use Rattle.model.specs.Schemas.{broken}
@@ -15,7 +15,7 @@ use Rattle.model.specs.Records.{leastAbove, position}
 use Rattle.model.specs.Tables.{decode}
 use Rattle.model.specs.WellFormed.{wellFormed}
 use Rattle.walk.specs.Sound.{Sound}
-use Rattle.model.specs.Calls.{schemaLength, tableLength, marksLength, marked, placeKey, walkNumber, walkGiven, walkPlace}
+use Rattle.model.specs.Calls.{schemaLength, tableLength, marksLength, marked, placeKey, walkNumber, walkGiven, walkEnded, walkPlace}
 
 module _ (s t m : List ℕ) (p : ℕ) where
   abbrev pub wrong : Bool
@@ -29,24 +29,28 @@ module _ (s t m : List ℕ) (p : ℕ) where
       (and-left (schemaLength s) (tableLength t) c, and-right (schemaLength s) (tableLength t) c, ltb-false (usedAt t) p (b .1))
 
   abbrev answer : Told
-  answer = told (walkNumber s t m p) (walkGiven s t m p)
+  answer = toldEnded (walkNumber s t m p) (walkGiven s t m p) (walkEnded s t m p)
 
   pub told-length : wrong ≡ true → told 1 0 ≡ answer
-  unfolding walkNumber walkGiven lowest
+  unfolding walkNumber walkGiven walkEnded lowest
   told-length h = rw h
 
   pub told-schema : wrong ≡ false → broken s ≡ true → told 2 0 ≡ answer
-  unfolding walkNumber walkGiven lowest
+  unfolding walkNumber walkGiven walkEnded lowest
   told-schema h b = rw (h, b)
 
   pub told-table : wrong ≡ false → broken s ≡ false → wellFormed s t ≡ false → told 3 0 ≡ answer
-  unfolding walkNumber walkGiven lowest
+  unfolding walkNumber walkGiven walkEnded lowest
   told-table h b w = rw (h, b, w)
 
   pub told-given : (i : ℕ) → wrong ≡ false → broken s ≡ false → wellFormed s t ≡ true
-      → i ≡ position (leastAbove (placeKey (decode t) p) (marked m (decode t .records))) (decode t .records) → told 0 i ≡ answer
-  unfolding walkNumber walkGiven lowest
+      → i ≡ position (leastAbove (placeKey (decode t) p) (marked m (decode t .records))) (decode t .records) → toldEnded 0 i (eqb i 0) ≡ answer
+  unfolding walkNumber walkGiven walkEnded lowest
   told-given i h b w e = rw (h, b, w, e)
+
+  pub told-record : (i : ℕ) → (i ≡ 0 → ⊥) → wrong ≡ false → broken s ≡ false → wellFormed s t ≡ true
+      → i ≡ position (leastAbove (placeKey (decode t) p) (marked m (decode t .records))) (decode t .records) → told 0 i ≡ answer
+  told-record i n h b w e = ap (toldEnded 0 i) (sym (ne-eqb i 0 n)) ∙ told-given i h b w e
 
   -- the place afterwards
   pub place-after : (a : Told) (i q : ℕ) → a ≡ answer → i ≡ a .value → q ≡ cond (eqb i 0) p i → q ≡ walkPlace s t m p

@@ -3,11 +3,11 @@ ghost use mathlib.Core.Path.{_≡_};
 ghost use mathlib.Core.Bool.{cond, _||_, _&&_, not};
 ghost use Prim.Native.Nat.{_+_, _≤_};
 ghost use lib.Dec.{eqb, ltb};
-ghost use Rattle.answers.specs.Told.{told, walkTold};
+ghost use Rattle.answers.specs.Told.{toldEnded, walkTold};
 ghost use Rattle.model.specs.Layout.{mostRelations, capacityOf, usedAt, firstAt, nextAt, relationAt};
 ghost use Rattle.model.specs.Records.{leastAbove, position};
 ghost use Rattle.model.specs.Tables.{decode};
-ghost use Rattle.model.specs.Calls.{schemaLength, tableLength, marksLength, marked, placeKey, walkNumber, walkGiven, walkPlace};
+ghost use Rattle.model.specs.Calls.{schemaLength, tableLength, marksLength, marked, placeKey, walkNumber, walkGiven, walkEnded, walkPlace};
 ghost use Rattle.marking.specs.Marks.{isMarked};
 ghost use Rattle.walk.specs.Sound.{Sound};
 use answers::WalkAnswer;
@@ -82,7 +82,7 @@ fn wrong_length(schema: &[u64], table: &[u64], marks: &[u8], place: usize) -> bo
 
 // One step of the walk from a place.
 pub fn step(schema: &[u64], table: &[u64], marks: &[u8], place: usize) -> WalkAnswer
-    ensures { λ r. ⌜ walkTold r ≡ told (walkNumber (now (schema .entry)) (now (table .entry)) (now (marks .entry)) place) (walkGiven (now (schema .entry)) (now (table .entry)) (now (marks .entry)) place) ⌝ }
+    ensures { λ r. ⌜ walkTold r ≡ toldEnded (walkNumber (now (schema .entry)) (now (table .entry)) (now (marks .entry)) place) (walkGiven (now (schema .entry)) (now (table .entry)) (now (marks .entry)) place) (walkEnded (now (schema .entry)) (now (table .entry)) (now (marks .entry)) place) ⌝ }
 {
     if wrong_length(schema, table, marks, place) {
         return WalkAnswer::WrongLength;
@@ -117,7 +117,7 @@ fn place_after(place: usize, given: usize) -> usize
 }
 
 pub fn advance(schema: &[u64], table: &[u64], marks: &[u8], place: usize) -> Moved
-    ensures { λ r. ⌜ (walkTold (r .answer) ≡ told (walkNumber (now (schema .entry)) (now (table .entry)) (now (marks .entry)) place) (walkGiven (now (schema .entry)) (now (table .entry)) (now (marks .entry)) place)) × (r .index ≡ walkPlace (now (schema .entry)) (now (table .entry)) (now (marks .entry)) place) ⌝ }
+    ensures { λ r. ⌜ (walkTold (r .answer) ≡ toldEnded (walkNumber (now (schema .entry)) (now (table .entry)) (now (marks .entry)) place) (walkGiven (now (schema .entry)) (now (table .entry)) (now (marks .entry)) place) (walkEnded (now (schema .entry)) (now (table .entry)) (now (marks .entry)) place)) × (r .index ≡ walkPlace (now (schema .entry)) (now (table .entry)) (now (marks .entry)) place) ⌝ }
 {
     let answer = step(schema, table, marks, place);
     let index = place_after(place, answer.index());
@@ -131,7 +131,7 @@ pub struct Place {
 
 // The next record of the list, and the place moved to it. At the end and in a refusal the place does not move.
 pub fn next(place: &mut Place, schema: &[u64], table: &[u64], marks: &[u8]) -> WalkAnswer
-    ensures { λ r. ⌜ (walkTold r ≡ told (walkNumber (now (schema .entry)) (now (table .entry)) (now (marks .entry)) (now (place .entry) .index)) (walkGiven (now (schema .entry)) (now (table .entry)) (now (marks .entry)) (now (place .entry) .index))) × (now (place .exit) .index ≡ walkPlace (now (schema .entry)) (now (table .entry)) (now (marks .entry)) (now (place .entry) .index)) ⌝ }
+    ensures { λ r. ⌜ (walkTold r ≡ toldEnded (walkNumber (now (schema .entry)) (now (table .entry)) (now (marks .entry)) (now (place .entry) .index)) (walkGiven (now (schema .entry)) (now (table .entry)) (now (marks .entry)) (now (place .entry) .index)) (walkEnded (now (schema .entry)) (now (table .entry)) (now (marks .entry)) (now (place .entry) .index))) × (now (place .exit) .index ≡ walkPlace (now (schema .entry)) (now (table .entry)) (now (marks .entry)) (now (place .entry) .index)) ⌝ }
 {
     let m = advance(schema, table, marks, place.index);
     place.index = m.index;

@@ -43,8 +43,8 @@ use denote.Triple.Spec.{Meets, tripleOf}
 use denote.Triple.Table.{entered, cited}
 use denote.Triple.Walked.{says, Stays, stay-ref, stay-none-slice, walkOf, AllGo, goes-ref, goes-none-slice, Walks, ends-at, walked, walk-meets}
 use denote.Exit.{yes}
-use Rattle.answers.specs.Told.{told, walkTold}
-use Rattle.model.specs.Calls.{walkNumber, walkGiven, walkPlace}
+use Rattle.answers.specs.Told.{toldEnded, walkTold}
+use Rattle.model.specs.Calls.{walkNumber, walkGiven, walkEnded, walkPlace}
 use Rattle.walk.specs.declared.Place.{Place}
 use Rattle.walk.specs.declared.Moved.{Moved}
 use Rattle.answers.specs.declared.WalkAnswer.{WalkAnswer}
@@ -95,7 +95,7 @@ module _ {M : Type 1} (𝓤 : URA M) (H : Heap 𝓤) (A : Atoms 𝓤) (W : Given
 
   abbrev Facts : Moved → Type 0
   Facts r =
-      (walkTold (r .answer) ≡ told (walkNumber (s .now) (t .now) (m .now) (h .index)) (walkGiven (s .now) (t .now) (m .now) (h .index)))
+      (walkTold (r .answer) ≡ toldEnded (walkNumber (s .now) (t .now) (m .now) (h .index)) (walkGiven (s .now) (t .now) (m .now) (h .index)) (walkEnded (s .now) (t .now) (m .now) (h .index)))
       × (r .index ≡ walkPlace (s .now) (t .now) (m .now) (h .index))
 
   abbrev Post : Val → SProp 𝓤

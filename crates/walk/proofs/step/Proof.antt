@@ -2,7 +2,7 @@
 -- Assumes nothing.
 use mathlib.Core.Path.{sym, _∙_}
 use borrow.Author.Tests.{not-true, not-false}
-use Rattle.walk.proofs.Steps.{right, told-length, told-schema, told-table, told-given, is-sound}
+use Rattle.walk.proofs.Steps.{right, told-length, told-schema, told-table, told-given, told-record, is-sound}
 use borrow.Author.Needs.{needs}
 use Rattle.walk.proofs.step.Statement.{statement}
 use Rattle.walk.proofs.step.Tie as tie
@@ -40,7 +40,7 @@ returns-4 c =
 returns-5 : tie.Need-returns-5
 returns-5 c =
     let w = sym (c .before .before .before .before .before .before .before .wrong-length .ensures) ∙ c .before .before .before .before .before .before .if1 .left in
-    told-given _ _ _ _ _ w (sym (c .before .before .before .before .before .is-broken .ensures) ∙ c .before .before .before .before .if2 .left) (sym (c .before .before .before .well-formed .ensures) ∙ not-false _ (c .before .before .if3 .left)) (c .before .after .ensures)
+    told-record _ _ _ _ _ (c .if4 .left) w (sym (c .before .before .before .before .before .is-broken .ensures) ∙ c .before .before .before .before .if2 .left) (sym (c .before .before .before .well-formed .ensures) ∙ not-false _ (c .before .before .if3 .left)) (c .before .after .ensures)
 
 pub step-spec : {M : Type 1} → statement M
 step-spec =
