@@ -18,7 +18,7 @@ use Rattle.model.specs.Records.{Rec, has, inOrder, leastAbove, position}
 use Rattle.model.specs.Tables.{recordOf, decode}
 use Rattle.model.specs.Shown.{standing, kept, settled, shown}
 use Rattle.model.specs.Edits.{insertion}
-use Rattle.model.specs.Calls.{schemaLength, tableLength, schemaNumber, tableNumber, startNumber, startTable, marksOf, marked, placeKey, walkNumber, walkGiven, editNumber, insertionOf, insertionNumber, shownList}
+use Rattle.model.specs.Calls.{schemaLength, tableLength, schemaNumber, tableNumber, startNumber, startTable, marksOf, marked, placeKey, walkNumber, walkGiven, walkEnded, editNumber, insertionOf, insertionNumber, shownList}
 use Rattle.laws.proofs.Lists.{_∈_}
 use Rattle.laws.proofs.Checks.{passed}
 use Rattle.laws.proofs.Drafts.{shown-in, has-order}
@@ -131,14 +131,21 @@ end-keys s t m p n g k h = up-to (λ l. beyond l)
         let z : position (leastAbove (placeKey (decode t) p) (marked m (decode t .records))) (decode t .records) ≡ 0 = rw n at g in
         omega (arith, o .from-one, z)
 
-pub end-past-marked : (s t m : List ℕ) (p : ℕ) → walkNumber s t m p ≡ 0 → walkGiven s t m p ≡ 0
-    → (x : Rec) → x ∈ marked m (decode t .records) → x .key ≤ placeKey (decode t) p
-end-past-marked s t m p n g x h = end-keys s t m p n g (x .key) (in-has _ x (x .key) h refl)
+ended : (s t m : List ℕ) (p : ℕ) → walkEnded s t m p ≡ true → (walkNumber s t m p ≡ 0) × (walkGiven s t m p ≡ 0)
+unfolding walkEnded
+ended s t m p h = go (test (eqb (walkNumber s t m p) 0))
+  where
+    go : (eqb (walkNumber s t m p) 0 ≡ true) ⊎ (eqb (walkNumber s t m p) 0 ≡ false) → (walkNumber s t m p ≡ 0) × (walkGiven s t m p ≡ 0)
+    go (inl e) = (eqb-true _ _ e, eqb-true _ _ (rw e at h))
+    go (inr e) = let z : _≡_ {A = Bool} false true = rw e at h in clash z refl
+
+pub end-past-marked : (s t m : List ℕ) (p : ℕ) → walkEnded s t m p ≡ true → (x : Rec) → x ∈ marked m (decode t .records) → x .key ≤ placeKey (decode t) p
+end-past-marked s t m p e x h = let z = ended s t m p e in end-keys s t m p (z .0) (z .1) (x .key) (in-has _ x (x .key) h refl)
 
 -- the same over the marks made of the table: no shown record lies after the place
-pub end-past-shown : (s t : List ℕ) (p : ℕ) → walkNumber s t (marksOf s t) p ≡ 0 → walkGiven s t (marksOf s t) p ≡ 0
+pub end-past-shown : (s t : List ℕ) (p : ℕ) → walkEnded s t (marksOf s t) p ≡ true
     → (x : Rec) → x ∈ shown (schemaOf s) (inOrder (decode t .records)) → x .key ≤ placeKey (decode t) p
-end-past-shown s t p n g x h = end-keys s t (marksOf s t) p n g (x .key) (rw marks held)
+end-past-shown s t p e x h = let z = ended s t (marksOf s t) p e in end-keys s t (marksOf s t) p (z .0) (z .1) (x .key) (rw marks held)
   where
     marks : marked (marksOf s t) (decode t .records) ≡ heldBy (shown (schemaOf s) (inOrder (decode t .records))) (decode t .records)
     marks = unfold marksOf in marked-only _ (decode t .records) _

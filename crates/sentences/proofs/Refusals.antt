@@ -3,14 +3,14 @@
 -- Assumes nothing.
 use Prim.Native.Nat.{ℕ}
 use mathlib.Core.Path.{_≡_, refl}
-use mathlib.Core.Bool.{Bool}
+use mathlib.Core.Bool.{Bool, false}
 use mathlib.Core.List.{List, []}
 use mathlib.Core.Logic.{_≢_}
 use lib.ListN.{length}
 use borrow.Author.Tests.{ne-eqb}
 use Rattle.model.specs.Layout.{capacityOf}
 use Rattle.model.specs.Edits.{Edit}
-use Rattle.model.specs.Calls.{tableLength, deltaLength, startNumber, startTable, valuesNumber, valuesPart, mergeNumber, mergeTable, marksNumber, marksCount, marksMarks, walkNumber, walkGiven, walkPlace, editNumber, editTable, editDelta, insertionNumber, insertionLabel, insertionTable, insertionDelta, updateNumber, updateTable, updateDelta, deletionNumber, deletionTable, deletionDelta}
+use Rattle.model.specs.Calls.{tableLength, deltaLength, startNumber, startTable, valuesNumber, valuesPart, mergeNumber, mergeTable, marksNumber, marksCount, marksMarks, walkNumber, walkGiven, walkEnded, walkPlace, editNumber, editTable, editDelta, insertionNumber, insertionLabel, insertionTable, insertionDelta, updateNumber, updateTable, updateDelta, deletionNumber, deletionTable, deletionDelta}
 
 pub start-refused : (t : List ℕ) (r : ℕ) → startNumber t r ≢ 0 → startTable t r ≡ t
 unfolding startTable
@@ -28,9 +28,9 @@ pub marks-refused : (s t m : List ℕ) → marksNumber s t m ≢ 0 → (marksMar
 unfolding marksMarks marksCount
 marks-refused s t m n = (rw (ne-eqb _ 0 n), rw (ne-eqb _ 0 n))
 
-pub walk-refused : (s t m : List ℕ) (p : ℕ) → walkNumber s t m p ≢ 0 → (walkPlace s t m p ≡ p) × (walkGiven s t m p ≡ 0)
-unfolding walkPlace walkGiven
-walk-refused s t m p n = (rw (ne-eqb _ 0 n), rw (ne-eqb _ 0 n))
+pub walk-refused : (s t m : List ℕ) (p : ℕ) → walkNumber s t m p ≢ 0 → (walkPlace s t m p ≡ p) × (walkGiven s t m p ≡ 0) × (walkEnded s t m p ≡ false)
+unfolding walkPlace walkGiven walkEnded
+walk-refused s t m p n = (rw (ne-eqb _ 0 n), rw (ne-eqb _ 0 n), rw (ne-eqb _ 0 n))
 
 edit-kept : (k : ℕ) (own delta : List ℕ) (e : Edit) → k ≢ 0 → (editTable k own e ≡ own) × (editDelta k own delta e ≡ delta)
 unfolding editTable editDelta

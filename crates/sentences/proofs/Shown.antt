@@ -1,27 +1,24 @@
 -- What is shown: never an incomplete record, two records that reference each other, and never a loser of step 3.
 -- Assumes nothing.
 use Prim.Native.Nat.{ℕ, zero, suc, _-_, _≤_, _<_}
-use mathlib.Core.Path.{_≡_, refl, sym, _∙_, ap}
+use mathlib.Core.Path.{_≡_, refl, sym, _∙_}
 use mathlib.Core.Logic.{_⊎_, inl, inr}
 use mathlib.Core.Bool.{Bool, true, false, cond, _&&_}
 use mathlib.Core.List.{List, [], _∷_, _++_, map}
-use mathlib.Core.Option.{Option, some}
 use native.Mathlib.Omega.{arith}
 use lib.ListN.{length, getD, replicate}
 use borrow.Author.Tests.{not-false}
-use Rattle.crdt.specs.Cells.{Cell}
 use Rattle.crdt.proofs.Tests.{test, clash, and-left, and-right}
 use Rattle.model.specs.Layout.{usedAt}
 use Rattle.model.specs.Lists.{all-of, listed}
 use Rattle.model.specs.Schemas.{Relation, isReference, schemaOf}
-use Rattle.model.specs.Records.{Rec, has, at, inOrder, Distinct}
+use Rattle.model.specs.Records.{Rec, has, inOrder}
 use Rattle.model.specs.Tables.{recordOf, decode}
 use Rattle.model.specs.Shown.{complete, targets, conflict, standing, kept, shown}
 use Rattle.model.specs.Calls.{schemaLength, tableLength, marksOf, marksNumber, marksMarks}
 use Rattle.laws.proofs.Lists.{_∈_}
 use Rattle.laws.proofs.Checks.{passed}
-use Rattle.laws.proofs.Order.{order-rising, at-order}
-use Rattle.laws.proofs.Members.{at-member, rising-distinct}
+use Rattle.laws.proofs.Members.{one-key, in-order}
 use Rattle.laws.proofs.Drafts.{shown-in}
 use Rattle.laws.proofs.Shown.{has-in, standing-in, kept-in, kept-unbeaten, settled-part, settled-largest}
 use Rattle.encoded.proofs.Ranges.{listed-length, listed-at}
@@ -64,19 +61,6 @@ module _ (σ : List Relation) (c : List Rec) where
   loser-hidden winner loser h l e m = clash e (kept-unbeaten σ (standing σ c) loser winner (shown-kept loser m) h l)
 
 -- Over words: an accepted marks call writes 0 for an incomplete record.
-some-same : (a b : Cell) → _≡_ {A = Option Cell} (some a) (some b) → a ≡ b
-some-same a b e = cc
-
-rec-same : (k k′ : ℕ) (a b : Cell) → k ≡ k′ → a ≡ b → _≡_ {A = Rec} (record { key = k; cell = a }) (record { key = k′; cell = b })
-rec-same k k′ a b p q = rw (p, q)
-
-one-record : (s : List Rec) (x y : Rec) → Distinct s → x ∈ s → y ∈ inOrder s → x .key ≡ y .key → x ≡ y
-one-record s x y d hx hy e =
-    let a = at-member s x d hx in
-    let b = at-member (inOrder s) y (rising-distinct 0 (inOrder s) (order-rising s)) hy in
-    let q : at (x .key) s ≡ at (y .key) (inOrder s) = rw e (sym (at-order (y .key) s)) in
-    rec-same (x .key) (y .key) (x .cell) (y .cell) e (some-same (x .cell) (y .cell) (sym a ∙ q ∙ b))
-
 mark-at : (p : Rec → ℕ) (l : List Rec) (m : List ℕ) (n : ℕ) (d : Rec) → n < length l → getD (map p l ++ m) n 0 ≡ p (getD l n d)
 mark-at p [] m n d h = absurd (omega arith)
 mark-at p (x ∷ xs) m zero d h = refl
@@ -112,5 +96,6 @@ incomplete-unmarked s t m i h l u e = rw h (go (test (has (shown (schemaOf s) (i
     go (inl y) =
         let r = has-in (shown (schemaOf s) (inOrder recs)) (recordOf t i .key) y in
         let q : recordOf t i ∈ recs = rw here at (getD-in recs (i - 1) noRec within) in
-        let o = one-record recs (recordOf t i) (r .0) (good-valid s t (marks-good s t m h) .distinct) q (shown-in (schemaOf s) (inOrder recs) (r .0) (r .1)) (sym (r .2)) in
+        let d = good-valid s t (marks-good s t m h) .distinct in
+        let o = one-key recs d (recordOf t i) (r .0) q (in-order recs d (r .0) (shown-in (schemaOf s) (inOrder recs) (r .0) (r .1))) (sym (r .2)) in
         absurd (incomplete-hidden (schemaOf s) (inOrder recs) (recordOf t i) e (rw o (r .1)))

@@ -9,7 +9,7 @@ use lib.ListN.{length, replicate}
 use Rattle.crdt.specs.Labels.{largestCounter, labelOf}
 use Rattle.crdt.specs.Flags.{largestFlag}
 use Rattle.model.specs.Layout.{headerWords, recordWords, deltaWords, clockAt, usedAt, flagAt}
-use Rattle.model.specs.Calls.{schemaNumber, tableNumber, startNumber, startTable, mergeNumber, mergeTable, marksNumber, marksCount, marksMarks, walkNumber, walkGiven, insertionNumber, insertionLabel, insertionTable, insertionDelta, updateNumber, updateTable, updateDelta, deletionNumber, deletionTable, deletionDelta, Entry, shownList}
+use Rattle.model.specs.Calls.{schemaNumber, tableNumber, startNumber, startTable, mergeNumber, mergeTable, marksNumber, marksCount, marksMarks, walkNumber, walkGiven, walkEnded, insertionNumber, insertionLabel, insertionTable, insertionDelta, updateNumber, updateTable, updateDelta, deletionNumber, deletionTable, deletionDelta, Entry, shownList}
 use Rattle.model.specs.Cases.{herd, header, row, sameWords, sameEntries}
 
 -- The groups 1.1 and 2.1, a record 3.1, an unknown label.
@@ -145,7 +145,7 @@ noRoom =
     let t : List ℕ = replicate headerWords 7 in
     eqb (startNumber t 5) 0 && sameWords (startTable t 5) (5 ∷ replicate (headerWords - 1) 0) && eqb (tableNumber herd (startTable t 5)) 0
     && eqb (marksNumber herd (startTable t 5) []) 0 && eqb (marksCount herd (startTable t 5) []) 0 && sameWords (marksMarks herd (startTable t 5) []) []
-    && eqb (walkNumber herd (startTable t 5) [] 0) 0 && eqb (walkGiven herd (startTable t 5) [] 0) 0 && sameEntries (shownList herd (startTable t 5)) []
+    && eqb (walkNumber herd (startTable t 5) [] 0) 0 && walkEnded herd (startTable t 5) [] 0 && sameEntries (shownList herd (startTable t 5)) []
 
 -- "clock 2^40 − 2 inserts": the new label has the largest counter, and the next insertion gives 12.
 unfoldable pub lastLabel : Bool
@@ -179,4 +179,5 @@ walkEnd =
     let m = marksMarks herd t (7 ∷ 7 ∷ 7 ∷ []) in
     eqb (marksNumber herd t (7 ∷ 7 ∷ 7 ∷ [])) 0 && sameWords m (0 ∷ 1 ∷ 1 ∷ [])
     && eqb (walkNumber herd t m 0) 0 && eqb (walkGiven herd t m 0) 2 && eqb (walkGiven herd t m 2) 3 && eqb (walkGiven herd t m 1) 3
-    && eqb (walkNumber herd t m 3) 0 && eqb (walkGiven herd t m 3) 0
+    && not (walkEnded herd t m 0) && not (walkEnded herd t m 2) && not (walkEnded herd t m 1)
+    && eqb (walkNumber herd t m 3) 0 && eqb (walkGiven herd t m 3) 0 && walkEnded herd t m 3
