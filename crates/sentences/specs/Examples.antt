@@ -9,7 +9,7 @@ use lib.ListN.{length, replicate}
 use Rattle.crdt.specs.Labels.{largestCounter, labelOf}
 use Rattle.crdt.specs.Flags.{largestFlag}
 use Rattle.model.specs.Layout.{headerWords, recordWords, deltaWords, clockAt, usedAt, flagAt}
-use Rattle.model.specs.Calls.{schemaNumber, tableNumber, startNumber, startTable, mergeNumber, mergeTable, marksNumber, marksCount, marksMarks, walkNumber, walkGiven, walkEnded, insertionNumber, insertionLabel, insertionTable, insertionDelta, updateNumber, updateTable, updateDelta, deletionNumber, deletionTable, deletionDelta, Entry, shownList}
+use Rattle.model.specs.Calls.{schemaNumber, tableNumber, startNumber, startTable, mergeNumber, mergeTable, marksNumber, marksCount, marksMarks, walkNumber, walkGiven, walkEnded, walkPlace, insertionNumber, insertionLabel, insertionTable, insertionDelta, updateNumber, updateTable, updateDelta, deletionNumber, deletionTable, deletionDelta, Entry, shownList}
 use Rattle.model.specs.Cases.{herd, header, row, sameWords, sameEntries}
 
 -- The groups 1.1 and 2.1, a record 3.1, an unknown label.
@@ -44,14 +44,22 @@ groupEntry l name = record { relation = 1; label = l; values = name ∷ [] }
 unfoldable pub groupRow : ℕ → ℕ → ℕ → ℕ → List ℕ
 groupRow next l flag name = row next 1 l flag (name ∷ []) (l ∷ [])
 
--- "A refusal changes no lent word, mark or place": each call refuses here, with words that are not the ones that it would write.
+-- "A refusal changes no lent word, mark or place; label and shown count come back 0.": each call refuses here, and would write other words.
 unfoldable pub refusals : Bool
 refusals =
     let t = header 1 1 (1 ∷ []) ++ groupRow 0 early 0 12 in
     let u = header 2 1 (1 ∷ []) ++ groupRow 0 late 0 13 in
-    eqb (startNumber t 0) 5 && eqb (mergeNumber herd t u) 11 && eqb (marksNumber herd t []) 1 && eqb (walkNumber herd t (0 ∷ []) 2) 1
-    && eqb (insertionNumber herd t oldBuffer 1 (13 ∷ [])) 11 && eqb (updateNumber herd t oldBuffer 1 2 13) 7
-    && eqb (deletionNumber herd (header 1 1 (1 ∷ []) ++ groupRow 0 early 1 12) oldBuffer 1) 6
+    let gone = header 1 1 (1 ∷ []) ++ groupRow 0 early 1 12 in
+    eqb (startNumber t 0) 5 && sameWords (startTable t 0) t
+    && eqb (mergeNumber herd t u) 11 && sameWords (mergeTable herd t u) t
+    && eqb (marksNumber herd t (7 ∷ 7 ∷ [])) 1 && sameWords (marksMarks herd t (7 ∷ 7 ∷ [])) (7 ∷ 7 ∷ []) && eqb (marksCount herd t (7 ∷ 7 ∷ [])) 0
+    && eqb (walkNumber herd t (1 ∷ []) 2) 1 && eqb (walkPlace herd t (1 ∷ []) 2) 2 && eqb (walkGiven herd t (1 ∷ []) 2) 0
+    && eqb (insertionNumber herd t oldBuffer 1 (13 ∷ [])) 11 && eqb (insertionLabel herd t oldBuffer 1 (13 ∷ [])) 0
+    && sameWords (insertionTable herd t oldBuffer 1 (13 ∷ [])) t && sameWords (insertionDelta herd t oldBuffer 1 (13 ∷ [])) oldBuffer
+    && eqb (updateNumber herd t oldBuffer 1 2 13) 7 && sameWords (updateTable herd t oldBuffer 1 2 13) t
+    && sameWords (updateDelta herd t oldBuffer 1 2 13) oldBuffer
+    && eqb (deletionNumber herd gone oldBuffer 1) 6 && sameWords (deletionTable herd gone oldBuffer 1) gone
+    && sameWords (deletionDelta herd gone oldBuffer 1) oldBuffer
 
 -- "old contents are ignored": an insertion, an update and a deletion write the same delta into either buffer, and it is neither of them.
 unfoldable pub buffers : Bool
