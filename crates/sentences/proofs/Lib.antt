@@ -1,0 +1,5 @@
+pub mod Labels
+pub mod Examples
+pub mod Refusals
+pub mod Shown
+pub mod Edges
