@@ -23,12 +23,12 @@ use Rattle.laws.proofs.Lists.{_∈_}
 use Rattle.laws.proofs.Checks.{passed}
 use Rattle.laws.proofs.Drafts.{shown-in, has-order}
 use Rattle.laws.proofs.Shown.{in-has}
-use Rattle.encoded.proofs.Ranges.{listed-length}
-use Rattle.encoded.proofs.Follow.{has-none, has-here, has-there, has-cases, Least, least-of, Placed, position-some}
-use Rattle.decoded.proofs.Facts.{formed}
-use Rattle.listing.proofs.Marked.{marked-only, heldBy, has-held}
-use Rattle.listing.proofs.Walk.{walk-lists}
-use Rattle.runs.proofs.Tables.{Good, good-table, table-good, Begun, start-good}
+use Rattle.wellformed.proofs.Ranges.{listed-length}
+use Rattle.wellformed.proofs.Follow.{has-none, has-here, has-there, has-cases, Least, least-of, Placed, position-some}
+use Rattle.wellformed.proofs.Facts.{formed}
+use Rattle.convergence.proofs.Marked.{marked-only, heldBy, has-held}
+use Rattle.convergence.proofs.Walk.{walk-lists}
+use Rattle.convergence.proofs.Tables.{Good, good-table, table-good, Begun, start-good}
 
 -- A check whose number is the answer applies.
 answered : (xs : List Check) (n : ℕ) → lowest xs ≡ suc n → some-of (λ (x : Check). eqb (x .number) (suc n) && x .applies) xs ≡ true

@@ -21,10 +21,10 @@ use Rattle.laws.proofs.Checks.{passed}
 use Rattle.laws.proofs.Members.{one-key, in-order}
 use Rattle.laws.proofs.Drafts.{shown-in}
 use Rattle.laws.proofs.Shown.{has-in, standing-in, kept-in, kept-unbeaten, settled-part, settled-largest}
-use Rattle.encoded.proofs.Ranges.{listed-length, listed-at}
-use Rattle.encoded.proofs.Follow.{noRec}
-use Rattle.listing.proofs.Walk.{getD-in}
-use Rattle.runs.proofs.Tables.{Good, good-valid}
+use Rattle.wellformed.proofs.Ranges.{listed-length, listed-at}
+use Rattle.wellformed.proofs.Follow.{noRec}
+use Rattle.convergence.proofs.Walk.{getD-in}
+use Rattle.convergence.proofs.Tables.{Good, good-valid}
 
 module _ (σ : List Relation) (c : List Rec) where
   shown-kept : (x : Rec) → x ∈ shown σ c → x ∈ kept σ (standing σ c)
