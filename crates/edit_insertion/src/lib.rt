@@ -1,12 +1,12 @@
-// The checks of an insertion over a judged table, in number order.
+// The checks of an insertion, in number order, and the marks of the records that it redoes.
 ghost use mathlib.Core.Path.{_≡_};
 ghost use mathlib.Core.Bool.{true};
 ghost use mathlib.Core.List.{[], _∷_};
-ghost use Prim.Native.Nat.{_≤_};
+ghost use Prim.Native.Nat.{_≤_, _*_};
 ghost use lib.Dec.{eqb};
 ghost use lib.ListN.{length};
-ghost use Rattle.answers.specs.Told.{told, insertionTold};
 ghost use Rattle.crdt.specs.Labels.{largestCounter};
+ghost use Rattle.answers.specs.Told.{told, insertionTold};
 ghost use Rattle.model.specs.Layout.{fields, mostRecords, relations, capacityOf, clockAt, usedAt};
 ghost use Rattle.model.specs.Lists.{some-of, check, lowest};
 ghost use Rattle.model.specs.Schemas.{isReference, schemaOf};
@@ -14,13 +14,14 @@ ghost use Rattle.model.specs.Records.{Rec};
 ghost use Rattle.model.specs.Tables.{decode};
 ghost use Rattle.model.specs.Shown.{leads, conflict, standing, shown};
 ghost use Rattle.model.specs.Edits.{Edit, valuesRule, newRecord, odd, spent};
-ghost use Rattle.model.specs.Calls.{insertionOf};
+ghost use Rattle.model.specs.Calls.{insertionOf, insertionNumber};
 ghost use Rattle.references.specs.Order.{Checked};
 ghost use Rattle.references.specs.Resolved.{Marked};
 ghost use Rattle.edit_delta.specs.Picked.{Picked};
 ghost use Rattle.edit_basics.specs.Targets.{kindsOf, bare, held};
 ghost use Rattle.edit_laws.specs.Clash.{Padded};
 use answers::InsertionAnswer;
+use answers::TableAnswer;
 use crdt::Label;
 
 // The values, and zeros behind them.
@@ -79,7 +80,7 @@ fn judge_room(
 }
 
 // Checks 5 to 13 of the insertion of a record; the marks of the records to be redone, where none applies.
-pub fn judge_insertion(
+fn check_insertion(
     schema: &[u64],
     table: &[u64],
     stands: &[u8],
@@ -108,4 +109,45 @@ pub fn judge_insertion(
         return InsertionAnswer::KeyTaken;
     }
     judge_room(schema, table, r, values, redo)
+}
+
+// Checks 5 to 13 of an insertion into a judged table; the marks of the records to be redone, where none applies.
+fn insertion_checks(
+    schema: &[u64],
+    table: &[u64],
+    relation: usize,
+    values: &[u64],
+    redo: &mut [u8],
+) -> InsertionAnswer
+    requires { ⌜ Checked (now schema) (now table) × (mostRecords ≡ length (now redo)) ⌝ }
+    ensures answer { λ r. ⌜ insertionTold r ≡ told (lowest (insertionOf (now (schema .entry)) (now (table .entry)) relation (now (values .entry)) .checks)) 0 ⌝ }
+    ensures redone { λ _. ⌜ (lowest (insertionOf (now (schema .entry)) (now (table .entry)) relation (now (values .entry)) .checks) ≡ 0 → Picked (now (table .entry)) (odd (held (now (table .entry))) (leads isReference (kindsOf (now (schema .entry)) relation) (bare (now (values .entry))))) (now (redo .exit))) ⌝ }
+{
+    let mut refs = [0u16; layout::FIELDS * layout::MOST_RECORDS];
+    let mut stands = [0u8; layout::MOST_RECORDS];
+    let mut marks = [0u8; layout::MOST_RECORDS];
+    edit_first::resolve_and_mark(schema, table, &mut refs, &mut stands, &mut marks);
+    check_insertion(schema, table, &stands, &marks, relation, values, redo)
+}
+
+// What an insertion answers, but for the new label; the marks of the records to be redone, where it is accepted.
+pub fn judge_insertion(
+    schema: &[u64],
+    own: &[u64],
+    delta: &[u64],
+    relation: usize,
+    values: &[u64],
+    redo: &mut [u8],
+) -> InsertionAnswer
+    requires { ⌜ mostRecords ≡ length (now redo) ⌝ }
+    ensures answer { λ r. ⌜ insertionTold r ≡ told (insertionNumber (now (schema .entry)) (now (own .entry)) (now (delta .entry)) relation (now (values .entry))) 0 ⌝ }
+    ensures redone { λ _. ⌜ (0 ≡ insertionNumber (now (schema .entry)) (now (own .entry)) (now (delta .entry)) relation (now (values .entry)) → Picked (now (own .entry)) (odd (held (now (own .entry))) (leads isReference (kindsOf (now (schema .entry)) relation) (bare (now (values .entry))))) (now (redo .exit))) ⌝ }
+{
+    let first = edit_first::first_checks(schema, own, delta, false);
+    match first {
+        TableAnswer::WrongLength => InsertionAnswer::WrongLength,
+        TableAnswer::SchemaBroken => InsertionAnswer::SchemaBroken,
+        TableAnswer::TableBroken => InsertionAnswer::TableBroken,
+        TableAnswer::Good => insertion_checks(schema, own, relation, values, redo),
+    }
 }

@@ -1,11 +1,11 @@
-// The checks of an update over a judged table, in number order.
+// The checks of an update, in number order, and the marks of the records that it redoes.
 ghost use mathlib.Core.Path.{_≡_};
 ghost use mathlib.Core.Bool.{cond};
 ghost use Prim.Native.Nat.{_≤_, _*_};
 ghost use lib.Dec.{eqb};
 ghost use lib.ListN.{length};
-ghost use Rattle.answers.specs.Told.{told, updateTold};
 ghost use Rattle.crdt.specs.Cells.{reg};
+ghost use Rattle.answers.specs.Told.{told, updateTold};
 ghost use Rattle.model.specs.Layout.{fields, mostRecords, relationAt, kindAt, valueAt};
 ghost use Rattle.model.specs.Lists.{some-of, lowest};
 ghost use Rattle.model.specs.Schemas.{schemaOf};
@@ -13,11 +13,12 @@ ghost use Rattle.model.specs.Records.{Rec};
 ghost use Rattle.model.specs.Tables.{decode, recordOf};
 ghost use Rattle.model.specs.Shown.{described, standing, shown};
 ghost use Rattle.model.specs.Edits.{Edit, newLabel, withRegister, updateConflict, updateRedoes};
-ghost use Rattle.model.specs.Calls.{updateOf};
+ghost use Rattle.model.specs.Calls.{updateOf, updateNumber};
 ghost use Rattle.references.specs.Resolved.{Resolves, Marked};
 ghost use Rattle.edit_delta.specs.Picked.{Picked};
 ghost use Rattle.edit_basics.specs.Targets.{held, Placed};
 ghost use Rattle.edit_laws.specs.Clash.{narrowed, Renewed};
+use answers::TableAnswer;
 use answers::UpdateAnswer;
 use crdt::Label;
 
@@ -72,7 +73,7 @@ pub fn is_update_taken(
 }
 
 // Checks 6 to 13 of the update of field `f` of record `i`; the marks of the records to be redone, where none applies.
-pub fn judge_update(
+fn check_update(
     schema: &[u64],
     table: &[u64],
     refs: &[u16],
@@ -116,4 +117,57 @@ pub fn judge_update(
         return UpdateAnswer::FlagSpent;
     }
     UpdateAnswer::Updated
+}
+
+// Checks 6 to 13 of an update of a judged table; the marks of the records to be redone, where none applies.
+fn update_checks(
+    schema: &[u64],
+    table: &[u64],
+    index: usize,
+    field: usize,
+    value: u64,
+    redo: &mut [u8],
+) -> UpdateAnswer
+    requires { ⌜ Placed (now schema) (now table) index × (mostRecords ≡ length (now redo)) ⌝ }
+    ensures answer { λ r. ⌜ updateTold r ≡ told (lowest (updateOf (now (schema .entry)) (now (table .entry)) index field value .checks)) 0 ⌝ }
+    ensures redone { λ _. ⌜ (lowest (updateOf (now (schema .entry)) (now (table .entry)) index field value .checks) ≡ 0 → Picked (now (table .entry)) (updateRedoes (schemaOf (now (schema .entry))) (held (now (table .entry))) (recordOf (now (table .entry)) index) (kindAt (now (schema .entry)) (relationAt (now (table .entry)) index) field) (valueAt (now (table .entry)) index field) value) (now (redo .exit))) ⌝ }
+{
+    let mut refs = [0u16; layout::FIELDS * layout::MOST_RECORDS];
+    let mut stands = [0u8; layout::MOST_RECORDS];
+    let mut marks = [0u8; layout::MOST_RECORDS];
+    edit_first::resolve_and_mark(schema, table, &mut refs, &mut stands, &mut marks);
+    check_update(
+        schema,
+        table,
+        &refs,
+        &stands,
+        &marks,
+        index,
+        field,
+        value,
+        redo,
+    )
+}
+
+// What an update answers; the marks of the records to be redone, where it is accepted.
+pub fn judge_update(
+    schema: &[u64],
+    own: &[u64],
+    delta: &[u64],
+    index: usize,
+    field: usize,
+    value: u64,
+    redo: &mut [u8],
+) -> UpdateAnswer
+    requires { ⌜ mostRecords ≡ length (now redo) ⌝ }
+    ensures answer { λ r. ⌜ updateTold r ≡ told (updateNumber (now (schema .entry)) (now (own .entry)) (now (delta .entry)) index field value) 0 ⌝ }
+    ensures redone { λ _. ⌜ (0 ≡ updateNumber (now (schema .entry)) (now (own .entry)) (now (delta .entry)) index field value → Picked (now (own .entry)) (updateRedoes (schemaOf (now (schema .entry))) (held (now (own .entry))) (recordOf (now (own .entry)) index) (kindAt (now (schema .entry)) (relationAt (now (own .entry)) index) field) (valueAt (now (own .entry)) index field) value) (now (redo .exit))) ⌝ }
+{
+    let first = edit_first::first_checks(schema, own, delta, layout::bad_index(own, index));
+    match first {
+        TableAnswer::WrongLength => UpdateAnswer::WrongLength,
+        TableAnswer::SchemaBroken => UpdateAnswer::SchemaBroken,
+        TableAnswer::TableBroken => UpdateAnswer::TableBroken,
+        TableAnswer::Good => update_checks(schema, own, index, field, value, redo),
+    }
 }

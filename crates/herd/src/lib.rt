@@ -3,6 +3,7 @@ ghost use mathlib.Core.Path.{_≡_};
 ghost use Rattle.model.specs.Calls.{schemaNumber, tableNumber, startNumber, startTable, valuesNumber, mergeNumber, mergeTable, marksNumber, marksCount, marksMarks, walkNumber, walkGiven, walkPlace, insertionNumber, insertionLabel, insertionTable, insertionDelta, updateNumber, updateTable, updateDelta, deletionNumber, deletionTable, deletionDelta};
 ghost use Rattle.herd.specs.First.{valuesFirst};
 
+// Schema check for C: the answer's number.
 #[no_mangle]
 pub extern "C" fn herd_schema_check(schema: &[u64]) -> u64
     ensures { λ r. ⌜ r ≡ schemaNumber (now (schema .entry)) ⌝ }
@@ -10,6 +11,7 @@ pub extern "C" fn herd_schema_check(schema: &[u64]) -> u64
     schema::schema_check(schema).number()
 }
 
+// Table check for C: the answer's number.
 #[no_mangle]
 pub extern "C" fn herd_table_check(schema: &[u64], table: &[u64]) -> u64
     ensures { λ r. ⌜ r ≡ tableNumber (now (schema .entry)) (now (table .entry)) ⌝ }
@@ -17,6 +19,7 @@ pub extern "C" fn herd_table_check(schema: &[u64], table: &[u64]) -> u64
     table::table_check(schema, table).number()
 }
 
+// Starting a table for C: the answer's number.
 #[no_mangle]
 pub extern "C" fn herd_start(table: &mut [u64], replica: u64) -> u64
     ensures answer { λ r. ⌜ r ≡ startNumber (now (table .entry)) replica ⌝ }
@@ -25,6 +28,7 @@ pub extern "C" fn herd_start(table: &mut [u64], replica: u64) -> u64
     table::start(table, replica).number()
 }
 
+// Merge for C: the answer's number.
 #[no_mangle]
 pub extern "C" fn herd_merge(schema: &[u64], own: &mut [u64], other: &[u64]) -> u64
     ensures answer { λ r. ⌜ r ≡ mergeNumber (now (schema .entry)) (now (own .entry)) (now (other .entry)) ⌝ }
@@ -33,7 +37,7 @@ pub extern "C" fn herd_merge(schema: &[u64], own: &mut [u64], other: &[u64]) -> 
     merge::merge(schema, own, other).number()
 }
 
-// `label` becomes the label of the new record, 0 in a refusal.
+// Insertion for C: the answer's number; `label` becomes the label of the new record, 0 in a refusal.
 #[no_mangle]
 pub extern "C" fn herd_insert(
     schema: &[u64],
@@ -53,6 +57,7 @@ pub extern "C" fn herd_insert(
     answer.number()
 }
 
+// Update for C: the answer's number.
 #[no_mangle]
 pub extern "C" fn herd_update(
     schema: &[u64],
@@ -69,6 +74,7 @@ pub extern "C" fn herd_update(
     edits::update(schema, own, delta, index, field, value).number()
 }
 
+// Deletion for C: the answer's number.
 #[no_mangle]
 pub extern "C" fn herd_delete(
     schema: &[u64],
@@ -83,7 +89,7 @@ pub extern "C" fn herd_delete(
     edits::deletion(schema, own, delta, index).number()
 }
 
-// `shown` becomes the number of shown records, 0 in a refusal.
+// Shown marks for C: the answer's number; `shown` becomes the number of shown records, 0 in a refusal.
 #[no_mangle]
 pub extern "C" fn herd_marks(
     schema: &[u64],
@@ -100,7 +106,7 @@ pub extern "C" fn herd_marks(
     answer.number()
 }
 
-// `given` becomes the index of the record given, 0 at the end and in a refusal; `place` moves to it, and otherwise stays.
+// The list walk for C: the answer's number; `given` becomes the index of the record given, 0 at the end and in a refusal; `place` moves to it, and otherwise stays.
 #[no_mangle]
 pub extern "C" fn herd_walk(
     schema: &[u64],
@@ -120,7 +126,7 @@ pub extern "C" fn herd_walk(
     answer.number()
 }
 
-// `first` becomes the word of the table at which the record's values begin, 0 in a refusal.
+// The values call for C: the answer's number; `first` becomes the word of the table at which the record's values begin, 0 in a refusal.
 #[no_mangle]
 pub extern "C" fn herd_values(table: &[u64], index: usize, first: &mut u64) -> u64
     ensures answer { λ r. ⌜ r ≡ valuesNumber (now (table .entry)) index ⌝ }

@@ -141,12 +141,14 @@ pub fn capacity(t: &[u64]) -> usize
     (t.len() - HEADER_WORDS) / RECORD_WORDS
 }
 
+// Whether a slice has the length of a schema.
 pub fn schema_length(s: &[u64]) -> bool
     ensures { λ r. ⌜ r ≡ schemaLength (now (s .entry)) ⌝ }
 {
     s.len() == SCHEMA_WORDS
 }
 
+// Whether a slice has the length of a table.
 pub fn table_length(t: &[u64]) -> bool
     ensures { λ r. ⌜ r ≡ tableLength (now (t .entry)) ⌝ }
 {
@@ -157,6 +159,7 @@ pub fn table_length(t: &[u64]) -> bool
     ((t.len() - HEADER_WORDS) % RECORD_WORDS == 0) & most
 }
 
+// Whether a slice has the length of a delta.
 pub fn delta_length(d: &[u64]) -> bool
     ensures { λ r. ⌜ r ≡ deltaLength (now (d .entry)) ⌝ }
 {
@@ -184,6 +187,7 @@ pub fn relations(s: &[u64]) -> usize
     word(s, 0) as usize
 }
 
+// The number of fields of relation `r`.
 pub fn field_count(s: &[u64], r: usize) -> usize
     ensures { λ x. ⌜ x ≡ fieldCount (now (s .entry)) r ⌝ }
 {
@@ -204,12 +208,14 @@ pub fn mask_at(s: &[u64], r: usize, m: usize) -> u64
     block_word(s, r, FIELDS, m)
 }
 
+// The replica number of a table.
 pub fn replica(t: &[u64]) -> u64
     ensures { λ r. ⌜ r ≡ replicaAt (now (t .entry)) ⌝ }
 {
     word(t, REPLICA_WORD)
 }
 
+// The clock of a table.
 pub fn clock(t: &[u64]) -> u64
     ensures { λ r. ⌜ r ≡ clockAt (now (t .entry)) ⌝ }
 {
@@ -243,18 +249,21 @@ pub fn next_at(t: &[u64], i: usize) -> usize
     record_word(t, i, NEXT_WORD, 0) as usize
 }
 
+// The relation of record `i`.
 pub fn relation_at(t: &[u64], i: usize) -> usize
     ensures { λ x. ⌜ x ≡ relationAt (now (t .entry)) i ⌝ }
 {
     record_word(t, i, RELATION_WORD, 0) as usize
 }
 
+// The label of record `i`.
 pub fn label_at(t: &[u64], i: usize) -> u64
     ensures { λ x. ⌜ x ≡ labelAt (now (t .entry)) i ⌝ }
 {
     record_word(t, i, LABEL_WORD, 0)
 }
 
+// The flag of record `i`.
 pub fn flag_at(t: &[u64], i: usize) -> u64
     ensures { λ x. ⌜ x ≡ flagAt (now (t .entry)) i ⌝ }
 {
@@ -268,6 +277,7 @@ pub fn value_at(t: &[u64], i: usize, j: usize) -> u64
     record_word(t, i, HEAD_WORDS - 1, j)
 }
 
+// The stamp of field `j` of record `i`.
 pub fn stamp_at(t: &[u64], i: usize, j: usize) -> u64
     ensures { λ x. ⌜ x ≡ stampAt (now (t .entry)) i j ⌝ }
 {

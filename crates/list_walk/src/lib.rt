@@ -116,6 +116,7 @@ fn place_after(place: usize, given: usize) -> usize
     given
 }
 
+// One step of the walk by value: what it gives, and the place after it.
 pub fn advance(schema: &[u64], table: &[u64], marks: &[u8], place: usize) -> Moved
     ensures { λ r. ⌜ (walkTold (r .answer) ≡ toldEnded (walkNumber (now (schema .entry)) (now (table .entry)) (now (marks .entry)) place) (walkGiven (now (schema .entry)) (now (table .entry)) (now (marks .entry)) place) (walkEnded (now (schema .entry)) (now (table .entry)) (now (marks .entry)) place)) × (r .index ≡ walkPlace (now (schema .entry)) (now (table .entry)) (now (marks .entry)) place) ⌝ }
 {

@@ -1,61 +1,63 @@
--- `edit_deletion::judge_deletion` meets its contract.
+-- `edit_deletion::judge_deletion` meets its contract. Checks 1 to 3, then the deletion's own.
 -- Assumes nothing.
-use Prim.Native.Nat.{ℕ, _≤_}
-use mathlib.Core.Path.{_≡_, ap}
+use mathlib.Core.Path.{ap, sym, _∙_}
 use native.Mathlib.Omega.{arith}
-use Rattle.answers.specs.Told.{Told, told}
-use Rattle.crdt.proofs.Tests.{not-true}
-use Rattle.edit_basics.proofs.Turns.{not-left}
-use Rattle.edit_laws.proofs.DeletionNumber.{deletion-hidden, deletion-referenced, deletion-spent, deletion-done}
+use Rattle.answers.specs.Told.{tableTold}
+use Rattle.edit_laws.proofs.First.{told-placed}
+use Rattle.edit_laws.proofs.AcceptedDeletion.{deletion-refused, deletion-judged}
 use borrow.Author.Needs.{needs}
 use Rattle.edit_deletion.proofs.judge_deletion.Statement.{statement}
 use Rattle.edit_deletion.proofs.judge_deletion.Tie as tie
 
--- a refusal has a number
-refused : {X : Type 0} (n m : ℕ) → 1 ≤ n → told n 0 ≡ told m 0 → m ≡ 0 → X
-refused n m h e z = absurd (omega (arith, ap (λ (x : Told). x .number) e))
+bad-index-requires : tie.Need-bad-index-requires
+bad-index-requires c κs = search needs
 
-is-marked-requires : tie.Need-is-marked-requires
-is-marked-requires c κs = search needs
+first-checks-requires : tie.Need-first-checks-requires
+first-checks-requires c κs = search needs
+
+enum-told : tie.Need-enum-told
+enum-told c = search needs
+
+enum-told-2 : tie.Need-enum-told-2
+enum-told-2 c = search needs
+
+enum-told-3 : tie.Need-enum-told-3
+enum-told-3 c = search needs
+
+enum-told-4 : tie.Need-enum-told-4
+enum-told-4 c = search needs
+
+deletion-checks-requires : tie.Need-deletion-checks-requires
+deletion-checks-requires c κs = (told-placed _ _ _ _ _ (c .before .before .before .before .bad-index .ensures) (ap tableTold (sym (c .before .enum-told4 .given .1)) ∙ c .before .before .before .first-checks .ensures), c .before .before .before .before .before .before .before .before .before .pre)
 
 returns : tie.Need-returns
-returns c = let e = deletion-hidden _ _ _ (c .before .before .before .before .before .before .before .before .pre .0) _ (c .before .before .before .before .before .before .before .before .pre .4) _ (c .before .is-marked .ensures) (not-true _ (c .if1 .taken)) in (e, λ z. refused 6 _ (omega arith) e z)
-
-is-held-requires : tie.Need-is-held-requires
-is-held-requires c κs = (c .before .before .before .before .before .before .before .before .pre .0, c .before .before .before .before .before .before .before .before .pre .1, c .before .before .before .before .before .before .before .before .pre .2, c .before .before .before .before .before .before .before .before .pre .3)
+returns c = deletion-refused _ _ _ _ _ (c .before .before .before .bad-index .ensures) 1 (omega arith) (ap tableTold (sym (c .enum-told .given .1)) ∙ c .before .before .first-checks .ensures)
 
 returns-2 : tie.Need-returns-2
-returns-2 c = let e = deletion-referenced _ _ _ (c .before .before .before .before .before .before .before .before .before .before .pre .0) _ (c .before .before .before .before .before .before .before .before .before .before .pre .4) _ (c .before .before .before .is-marked .ensures) (not-left _ (c .before .before .if1 .left)) _ (c .before .is-held .ensures) (c .if2 .taken) in (e, λ z. refused 10 _ (omega arith) e z)
+returns-2 c = deletion-refused _ _ _ _ _ (c .before .before .before .bad-index .ensures) 2 (omega arith) (ap tableTold (sym (c .enum-told2 .given .1)) ∙ c .before .before .first-checks .ensures)
 
-mark-deletion-requires : tie.Need-mark-deletion-requires
-mark-deletion-requires c κs = (c .before .before .before .before .before .before .before .before .before .before .before .pre .0, c .before .before .before .before .before .before .before .before .before .before .before .pre .1, c .before .before .before .before .before .before .before .before .before .before .before .pre .2, c .before .before .before .before .before .before .before .before .before .before .before .pre .5)
-
-is-spent-requires : tie.Need-is-spent-requires
-is-spent-requires c κs = c .before .before .before .before .before .before .before .before .before .before .before .before .before .before .before .pre .0 .checked
+returns-3 : tie.Need-returns-3
+returns-3 c = deletion-refused _ _ _ _ _ (c .before .before .before .bad-index .ensures) 3 (omega arith) (ap tableTold (sym (c .enum-told3 .given .1)) ∙ c .before .before .first-checks .ensures)
 
 same-length : tie.Need-same-length
 same-length c = search needs
 
-returns-3 : tie.Need-returns-3
-returns-3 c = let e = deletion-spent _ _ _ (c .before .before .before .before .before .before .before .before .before .before .before .before .before .before .before .before .before .pre .0) _ (c .before .before .before .before .before .before .before .before .before .before .before .before .before .before .before .before .before .pre .4) _ (c .before .before .before .before .before .before .before .before .before .before .is-marked .ensures) (not-left _ (c .before .before .before .before .before .before .before .before .before .if1 .left)) _ (c .before .before .before .before .before .before .before .before .is-held .ensures) (c .before .before .before .before .before .before .before .if2 .left) _ (c .before .is-spent .ensures _ (c .before .before .before .before .before .mark-deletion .ensures)) (c .if3 .taken) in (e, λ z. refused 13 _ (omega arith) e z)
-
-same-length-2 : tie.Need-same-length-2
-same-length-2 c = search needs
-
 returns-4 : tie.Need-returns-4
-returns-4 c = (deletion-done _ _ _ (c .before .before .before .before .before .before .before .before .before .before .before .before .before .before .before .before .before .pre .0) _ (c .before .before .before .before .before .before .before .before .before .before .before .before .before .before .before .before .before .pre .4) _ (c .before .before .before .before .before .before .before .before .before .before .is-marked .ensures) (not-left _ (c .before .before .before .before .before .before .before .before .before .if1 .left)) _ (c .before .before .before .before .before .before .before .before .is-held .ensures) (c .before .before .before .before .before .before .before .if2 .left) _ (c .before .is-spent .ensures _ (c .before .before .before .before .before .mark-deletion .ensures)) (c .if3 .left), λ z. c .before .before .before .before .before .mark-deletion .ensures)
+returns-4 c = deletion-judged _ _ _ _ _ (c .before .before .before .before .before .before .before .bad-index .ensures) (ap tableTold (sym (c .before .before .before .before .enum-told4 .given .1)) ∙ c .before .before .before .before .before .before .first-checks .ensures) _ (c .before .before .deletion-checks .ensures .0) (c .before .before .deletion-checks .ensures .1)
 
 pub judge-deletion-spec : {M : Type 1} → statement M
 judge-deletion-spec =
     tie.close
     (tie.spec
-    is-marked-requires
+    bad-index-requires
+    first-checks-requires
+    enum-told
+    enum-told-2
+    enum-told-3
+    enum-told-4
+    deletion-checks-requires
     returns
-    is-held-requires
     returns-2
-    mark-deletion-requires
-    is-spent-requires
-    same-length
     returns-3
-    same-length-2
+    same-length
     returns-4)

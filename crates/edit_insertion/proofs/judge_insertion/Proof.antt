@@ -1,88 +1,58 @@
--- `edit_insertion::judge_insertion` meets its contract.
+-- `edit_insertion::judge_insertion` meets its contract. Checks 1 to 3, then the insertion's own.
 -- Assumes nothing.
-use Prim.Native.Nat.{ℕ, _≤_}
-use mathlib.Core.Path.{_≡_, sym, _∙_, ap}
+use mathlib.Core.Path.{ap, sym, _∙_}
 use native.Mathlib.Omega.{arith}
-use Rattle.answers.specs.Told.{Told, told}
-use Rattle.crdt.proofs.Tests.{not-true}
-use Rattle.edit_basics.proofs.Turns.{not-left}
-use Rattle.edit_laws.proofs.InsertionNumber.{insertion-below, insertion-above, insertion-bad, insertion-target, insertion-taken, insertion-later, told-as}
+use Rattle.answers.specs.Told.{tableTold}
+use Rattle.edit_laws.proofs.AcceptedInsertion.{insertion-refused, insertion-judged, told-checked}
 use borrow.Author.Needs.{needs}
 use Rattle.edit_insertion.proofs.judge_insertion.Statement.{statement}
 use Rattle.edit_insertion.proofs.judge_insertion.Tie as tie
 
--- a refusal has a number
-refused : {X : Type 0} (n m : ℕ) → 1 ≤ n → told n 0 ≡ told m 0 → m ≡ 0 → X
-refused n m h e z = absurd (omega (arith, ap (λ (x : Told). x .number) e))
+first-checks-requires : tie.Need-first-checks-requires
+first-checks-requires c κs = search needs
+
+enum-told : tie.Need-enum-told
+enum-told c = search needs
+
+enum-told-2 : tie.Need-enum-told-2
+enum-told-2 c = search needs
+
+enum-told-3 : tie.Need-enum-told-3
+enum-told-3 c = search needs
+
+enum-told-4 : tie.Need-enum-told-4
+enum-told-4 c = search needs
+
+insertion-checks-requires : tie.Need-insertion-checks-requires
+insertion-checks-requires c κs = (told-checked _ _ _ (ap tableTold (sym (c .before .enum-told4 .given .1)) ∙ c .before .before .before .first-checks .ensures), c .before .before .before .before .before .before .before .before .before .pre)
 
 returns : tie.Need-returns
-returns c = let w = insertion-below _ _ (c .before .before .before .before .before .before .before .pre .0) _ _ (c .if1 .taken) in (w, λ z. refused 5 _ (omega arith) w z)
-
-relations-requires : tie.Need-relations-requires
-relations-requires c κs = search needs
+returns c = insertion-refused _ _ _ _ _ 1 (omega arith) (ap tableTold (sym (c .enum-told .given .1)) ∙ c .before .before .first-checks .ensures)
 
 returns-2 : tie.Need-returns-2
-returns-2 c =
-    let w = insertion-above _ _ (c .before .before .before .before .before .before .before .before .before .pre .0) _ _ (omega arith) _ (c .before .relations .ensures) (c .if2 .taken) in
-    (w, λ z. refused 5 _ (omega arith) w z)
-
-values-rule-requires : tie.Need-values-rule-requires
-values-rule-requires c κs = search needs
+returns-2 c = insertion-refused _ _ _ _ _ 2 (omega arith) (ap tableTold (sym (c .enum-told2 .given .1)) ∙ c .before .before .first-checks .ensures)
 
 returns-3 : tie.Need-returns-3
-returns-3 c =
-    let n = c .before .before .before .relations .ensures in
-    let w = insertion-bad _ _ (c .before .before .before .before .before .before .before .before .before .before .before .pre .0) _ _ (omega arith) (omega arith) _ (c .before .values-rule .ensures) (not-true _ (c .if3 .taken)) in
-    (w, λ z. refused 7 _ (omega arith) w z)
-
-targets-shown-requires : tie.Need-targets-shown-requires
-targets-shown-requires c κs = (c .before .before .before .before .before .before .before .before .before .before .before .pre .0, c .before .before .before .before .before .before .before .before .before .before .before .pre .2, sym (c .before .values-rule .ensures) ∙ not-left _ (c .if3 .left))
-
-returns-4 : tie.Need-returns-4
-returns-4 c =
-    let n = c .before .before .before .before .before .relations .ensures in
-    let v = sym (c .before .before .before .values-rule .ensures) ∙ not-left _ (c .before .before .if3 .left) in
-    let w = insertion-target _ _ (c .before .before .before .before .before .before .before .before .before .before .before .before .before .pre .0) _ _ (omega arith) (omega arith) v _ (c .before .targets-shown .ensures) (not-true _ (c .if4 .taken)) in
-    (w, λ z. refused 8 _ (omega arith) w z)
-
-is-insertion-taken-requires : tie.Need-is-insertion-taken-requires
-is-insertion-taken-requires c κs =
-    let n = c .before .before .before .before .before .relations .ensures in
-    (c .before .before .before .before .before .before .before .before .before .before .before .before .before .pre .0, c .before .before .before .before .before .before .before .before .before .before .before .before .before .pre .1, omega arith, omega arith, sym (c .before .before .before .values-rule .ensures) ∙ not-left _ (c .before .before .if3 .left))
-
-returns-5 : tie.Need-returns-5
-returns-5 c =
-    let n = c .before .before .before .before .before .before .before .relations .ensures in
-    let v = sym (c .before .before .before .before .before .values-rule .ensures) ∙ not-left _ (c .before .before .before .before .if3 .left) in
-    let w = insertion-taken _ _ (c .before .before .before .before .before .before .before .before .before .before .before .before .before .before .before .pre .0) _ _ (omega arith) (omega arith) v _ (c .before .before .before .targets-shown .ensures) (not-left _ (c .before .before .if4 .left)) _ (c .before .is-insertion-taken .ensures) (c .if5 .taken) in
-    (w, λ z. refused 9 _ (omega arith) w z)
-
-judge-room-requires : tie.Need-judge-room-requires
-judge-room-requires c κs = (c .before .before .before .before .before .before .before .before .before .before .before .before .before .before .before .before .pre .0, sym (c .before .before .before .before .before .before .values-rule .ensures) ∙ not-left _ (c .before .before .before .before .before .if3 .left), c .before .before .before .before .before .before .before .before .before .before .before .before .before .before .before .before .pre .3)
+returns-3 c = insertion-refused _ _ _ _ _ 3 (omega arith) (ap tableTold (sym (c .enum-told3 .given .1)) ∙ c .before .before .first-checks .ensures)
 
 same-length : tie.Need-same-length
 same-length c = search needs
 
-returns-6 : tie.Need-returns-6
-returns-6 c =
-    let n = c .before .before .before .before .before .before .before .before .before .before .before .relations .ensures in
-    let v = sym (c .before .before .before .before .before .before .before .before .before .values-rule .ensures) ∙ not-left _ (c .before .before .before .before .before .before .before .before .if3 .left) in
-    let w = insertion-later _ _ (c .before .before .before .before .before .before .before .before .before .before .before .before .before .before .before .before .before .before .before .pre .0) _ _ (omega arith) (omega arith) v _ (c .before .before .before .before .before .before .before .targets-shown .ensures) (not-left _ (c .before .before .before .before .before .before .if4 .left)) _ (c .before .before .before .before .before .is-insertion-taken .ensures) (c .before .before .before .before .if5 .left) in
-    (told-as _ _ _ (c .before .before .judge-room .ensures .0) w, λ z. c .before .before .judge-room .ensures .1 (sym w ∙ z))
+returns-4 : tie.Need-returns-4
+returns-4 c = insertion-judged _ _ _ _ _ (ap tableTold (sym (c .before .before .before .before .enum-told4 .given .1)) ∙ c .before .before .before .before .before .before .first-checks .ensures) _ (c .before .before .insertion-checks .ensures .0) (c .before .before .insertion-checks .ensures .1)
 
 pub judge-insertion-spec : {M : Type 1} → statement M
 judge-insertion-spec =
     tie.close
     (tie.spec
+    first-checks-requires
+    enum-told
+    enum-told-2
+    enum-told-3
+    enum-told-4
+    insertion-checks-requires
     returns
-    relations-requires
     returns-2
-    values-rule-requires
     returns-3
-    targets-shown-requires
-    returns-4
-    is-insertion-taken-requires
-    returns-5
-    judge-room-requires
     same-length
-    returns-6)
+    returns-4)

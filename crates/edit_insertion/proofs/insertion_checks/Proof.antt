@@ -1,11 +1,11 @@
--- `edits::insertion_checks` meets its contract.
+-- `edit_insertion::insertion_checks` meets its contract.
 -- Assumes nothing.
 use Prim.Native.Nat.{_*_}
 use Rattle.model.specs.Layout.{fields, mostRecords}
 use Rattle.edit_laws.proofs.Room.{zeros-long}
 use borrow.Author.Needs.{needs}
-use Rattle.edits.proofs.insertion_checks.Statement.{statement}
-use Rattle.edits.proofs.insertion_checks.Tie as tie
+use Rattle.edit_insertion.proofs.insertion_checks.Statement.{statement}
+use Rattle.edit_insertion.proofs.insertion_checks.Tie as tie
 
 slice-aggregate-resolve-and-mark : tie.Need-slice-aggregate-resolve-and-mark
 slice-aggregate-resolve-and-mark c = search needs
@@ -19,14 +19,14 @@ slice-aggregate-resolve-and-mark-3 c = search needs
 resolve-and-mark-requires : tie.Need-resolve-and-mark-requires
 resolve-and-mark-requires c κs = (c .before .before .before .before .before .before .before .pre .0, zeros-long (fields * mostRecords), zeros-long mostRecords, zeros-long mostRecords)
 
-slice-aggregate-judge-insertion : tie.Need-slice-aggregate-judge-insertion
-slice-aggregate-judge-insertion c = search needs
+slice-aggregate-check-insertion : tie.Need-slice-aggregate-check-insertion
+slice-aggregate-check-insertion c = search needs
 
-slice-aggregate-judge-insertion-2 : tie.Need-slice-aggregate-judge-insertion-2
-slice-aggregate-judge-insertion-2 c = search needs
+slice-aggregate-check-insertion-2 : tie.Need-slice-aggregate-check-insertion-2
+slice-aggregate-check-insertion-2 c = search needs
 
-judge-insertion-requires : tie.Need-judge-insertion-requires
-judge-insertion-requires c κs = (c .before .before .before .before .before .before .before .before .before .before .before .before .before .before .pre .0, c .before .before .before .before .before .before .resolve-and-mark .ensures .1 .0, c .before .before .before .before .before .before .resolve-and-mark .ensures .1 .1, c .before .before .before .before .before .before .before .before .before .before .before .before .before .before .pre .1)
+check-insertion-requires : tie.Need-check-insertion-requires
+check-insertion-requires c κs = (c .before .before .before .before .before .before .before .before .before .before .before .before .before .before .pre .0, c .before .before .before .before .before .before .resolve-and-mark .ensures .1 .0, c .before .before .before .before .before .before .resolve-and-mark .ensures .1 .1, c .before .before .before .before .before .before .before .before .before .before .before .before .before .before .pre .1)
 
 same-length : tie.Need-same-length
 same-length c = search needs
@@ -42,8 +42,8 @@ insertion-checks-spec =
     slice-aggregate-resolve-and-mark-2
     slice-aggregate-resolve-and-mark-3
     resolve-and-mark-requires
-    slice-aggregate-judge-insertion
-    slice-aggregate-judge-insertion-2
-    judge-insertion-requires
+    slice-aggregate-check-insertion
+    slice-aggregate-check-insertion-2
+    check-insertion-requires
     same-length
     returns)

@@ -1,10 +1,10 @@
--- `edits::resolve_and_mark` meets its contract.
+-- `edit_first::resolve_and_mark` meets its contract.
 -- Assumes nothing.
 use native.Mathlib.Omega.{arith}
 use Rattle.references.proofs.Places.{used-most}
 use borrow.Author.Needs.{needs}
-use Rattle.edits.proofs.resolve_and_mark.Statement.{statement}
-use Rattle.edits.proofs.resolve_and_mark.Tie as tie
+use Rattle.edit_first.proofs.resolve_and_mark.Statement.{statement}
+use Rattle.edit_first.proofs.resolve_and_mark.Tie as tie
 
 resolve-requires : tie.Need-resolve-requires
 resolve-requires c κs = (c .before .before .before .before .before .before .pre .0, omega (arith, used-most _ _ (c .before .before .before .before .before .before .pre .0), c .before .before .before .before .before .before .pre .1))

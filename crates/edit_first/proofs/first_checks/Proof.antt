@@ -1,9 +1,9 @@
--- `edits::first_checks` meets its contract. Each answer is the lowest check that applies.
+-- `edit_first::first_checks` meets its contract. Each answer is the lowest check that applies.
 -- Assumes nothing.
 use Rattle.edit_laws.proofs.First.{first-length, first-schema, first-lengths, first-table, first-good}
 use borrow.Author.Needs.{needs}
-use Rattle.edits.proofs.first_checks.Statement.{statement}
-use Rattle.edits.proofs.first_checks.Tie as tie
+use Rattle.edit_first.proofs.first_checks.Statement.{statement}
+use Rattle.edit_first.proofs.first_checks.Tie as tie
 
 schema-length-requires : tie.Need-schema-length-requires
 schema-length-requires c κs = search needs
