@@ -7,7 +7,8 @@ use native.Mathlib.Omega.{arith}
 use lib.ListN.{length, getD, take, length-append}
 use lib.Seq.{ext-getD, length-take-le, take-at}
 use Rattle.model.specs.Lists.{from}
-use Rattle.codec.specs.Bytes.{wordBytes, wordAt, wordsOf}
+use Rattle.model.specs.Layout.{wordBytes}
+use Rattle.codec.specs.Bytes.{wordAt, wordsOf}
 
 module _ (f : ℕ → ℕ) where
   from-length : (i n : ℕ) → length (from i n f) ≡ n

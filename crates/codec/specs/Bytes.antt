@@ -3,10 +3,8 @@
 use Prim.Native.Nat.{ℕ, _+_, _*_, _/_}
 use mathlib.Core.List.{List}
 use lib.ListN.{length, getD}
+use Rattle.model.specs.Layout.{wordBytes}
 use Rattle.model.specs.Lists.{from}
-
-abbrev pub wordBytes : ℕ
-wordBytes = 8
 
 -- The little-endian word whose bytes begin at `at`.
 abbrev pub wordAt : List ℕ → ℕ → ℕ

@@ -2,7 +2,8 @@
 ghost use mathlib.Core.Path.{_≡_};
 ghost use Prim.Native.Nat.{_+_, _*_, _%_, _≤_, _<_};
 ghost use lib.ListN.{length, take};
-ghost use Rattle.codec.specs.Bytes.{wordBytes, wordAt, wordsOf};
+ghost use Rattle.model.specs.Layout.{wordBytes};
+ghost use Rattle.codec.specs.Bytes.{wordAt, wordsOf};
 
 // The bytes of a word.
 pub const WORD_BYTES: usize = 8;

@@ -10,9 +10,8 @@ use lib.ListN.{length, take, drop, length-take, length-drop}
 use Rattle.crdt.proofs.Tests.{or-false}
 use Rattle.model.specs.Layout.{fields, recordWords, headWords, base}
 use Rattle.model.specs.Lists.{lowest}
-use Rattle.model.specs.Calls.{tableLength, badIndex, valuesNumber, valuesPart}
+use Rattle.model.specs.Calls.{tableLength, badIndex, valuesNumber, valuesPart, valuesFirst}
 use Rattle.layout.proofs.Stride.{Inside, index-inside}
-use Rattle.herd.specs.First.{valuesFirst}
 
 pub record Refused (t : List ℕ) (i : ℕ) : Type 0 where
   pub number : 1 ≡ valuesNumber t i

@@ -1,7 +1,6 @@
 // The calls of document 01 as C functions. A slice is a pointer and a length; the answer is the page's number. No rule stands here.
 ghost use mathlib.Core.Path.{_≡_};
-ghost use Rattle.model.specs.Calls.{schemaNumber, tableNumber, startNumber, startTable, valuesNumber, mergeNumber, mergeTable, marksNumber, marksCount, marksMarks, walkNumber, walkGiven, walkPlace, insertionNumber, insertionLabel, insertionTable, insertionDelta, updateNumber, updateTable, updateDelta, deletionNumber, deletionTable, deletionDelta};
-ghost use Rattle.herd.specs.First.{valuesFirst};
+ghost use Rattle.model.specs.Calls.{schemaNumber, tableNumber, startNumber, startTable, valuesNumber, valuesFirst, mergeNumber, mergeTable, marksNumber, marksCount, marksMarks, walkNumber, walkGiven, walkPlace, insertionNumber, insertionLabel, insertionTable, insertionDelta, updateNumber, updateTable, updateDelta, deletionNumber, deletionTable, deletionDelta};
 
 // Schema check for C: the answer's number.
 #[no_mangle]

@@ -11,9 +11,9 @@ use lib.ListN.{length, take, drop, length-drop}
 use lib.Seq.{length-take-le, take-all}
 use borrow.Author.Tests.{eq-eqb, le-leb, eqb-true, leb-true}
 use Rattle.crdt.proofs.Tests.{test, clash, and-left, and-right, and-both}
-use Rattle.model.specs.Layout.{schemaWords, headerWords, recordWords, mostRecords, capacityOf}
+use Rattle.model.specs.Layout.{wordBytes, schemaWords, headerWords, recordWords, mostRecords, capacityOf}
 use Rattle.model.specs.Calls.{schemaLength, tableLength, marksLength}
-use Rattle.codec.specs.Bytes.{wordBytes, wordsOf}
+use Rattle.codec.specs.Bytes.{wordsOf}
 use Rattle.list_text.specs.Text.{refusedText}
 use Rattle.list.specs.Program.{mostListed, mostWords, schemaIn, tableIn, isWhole, answerText, listText}
 use Rattle.list_text.specs.Placed.{Placed}

@@ -6,9 +6,9 @@ use mathlib.Core.Bool.{Bool, cond, _&&_}
 use mathlib.Core.List.{List}
 use lib.Dec.{eqb, leb}
 use lib.ListN.{length, take, drop, replicate}
-use Rattle.model.specs.Layout.{fields, schemaWords, headerWords, recordWords, capacityOf}
+use Rattle.model.specs.Layout.{wordBytes, fields, schemaWords, headerWords, recordWords, capacityOf}
 use Rattle.model.specs.Calls.{schemaLength, tableLength, marksNumber, marksCount, shownList}
-use Rattle.codec.specs.Bytes.{wordBytes, wordsOf}
+use Rattle.codec.specs.Bytes.{wordsOf}
 use Rattle.list_text.specs.Text.{refusedText, shownText}
 
 -- "N up to 300"

@@ -63,6 +63,10 @@ valuesNumber t i = lowest (check 1 (not (tableLength t) || badIndex t i) ∷ [])
 unfoldable pub valuesPart : List ℕ → ℕ → List ℕ
 valuesPart t i = done (valuesNumber t i) (take fields (drop (base i + headWords) t)) []
 
+-- The word of the table at which that part begins; 0 in a refusal.
+unfoldable pub valuesFirst : List ℕ → ℕ → ℕ
+valuesFirst t i = done (valuesNumber t i) (base i + headWords) 0
+
 -- Merge of another table into the own.
 unfoldable pub mergeNumber : List ℕ → List ℕ → List ℕ → ℕ
 mergeNumber s own other =

@@ -5,6 +5,10 @@ use Prim.Native.Nat.{ℕ, _+_, _*_, _-_, _/_}
 use mathlib.Core.List.{List}
 use lib.ListN.{length, getD}
 
+-- "words of 64 bits"
+abbrev pub wordBytes : ℕ
+wordBytes = 8
+
 -- "eight field kinds", "eight values, eight stamps"
 abbrev pub fields : ℕ
 fields = 8

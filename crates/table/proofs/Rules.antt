@@ -16,7 +16,7 @@ use Rattle.model.specs.Layout.{fields, mostRelations, firstWords, zeroWord, zer
 use Rattle.model.specs.Lists.{each, all-of, lowest}
 use Rattle.model.specs.Schemas.{broken, blockRule, emptyBlock}
 use Rattle.model.specs.WellFormed.{headerRules, firstsRule, emptyAbove, recordRules, countersRule, chainsRise, onChain, restZero, wellFormed}
-use Rattle.model.specs.Calls.{schemaLength, tableLength, badIndex, tableNumber, startNumber, startTable, valuesNumber, valuesPart}
+use Rattle.model.specs.Calls.{schemaLength, tableLength, badIndex, tableNumber, startNumber, startTable, valuesNumber, valuesPart, valuesFirst}
 use Rattle.layout.proofs.Each.{each-more}
 
 -- the zeros that end the header, one more
@@ -163,3 +163,16 @@ module _ (t : List ℕ) (i : ℕ) (x : Bool) (e : x ≡ tableLength t) where
   pub values-given : (y : Bool) → x ≡ true → y ≡ badIndex t i → y ≡ false → take fields (drop (base i + headWords) t) ≡ valuesPart t i
   unfolding valuesPart valuesNumber lowest
   values-given y f g h = rw (← e, f, ← g, h)
+
+  -- and where it begins
+  pub first-length : x ≡ false → 0 ≡ valuesFirst t i
+  unfolding valuesFirst valuesNumber lowest
+  first-length f = rw (← e, f)
+
+  pub first-index : (y : Bool) → x ≡ true → y ≡ badIndex t i → y ≡ true → 0 ≡ valuesFirst t i
+  unfolding valuesFirst valuesNumber lowest
+  first-index y f g h = rw (← e, f, ← g, h)
+
+  pub first-given : (y : Bool) → x ≡ true → y ≡ badIndex t i → y ≡ false → base i + headWords ≡ valuesFirst t i
+  unfolding valuesFirst valuesNumber lowest
+  first-given y f g h = rw (← e, f, ← g, h)

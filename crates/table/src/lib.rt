@@ -1,16 +1,16 @@
 // The table check, starting a table, and a record's values.
 ghost use mathlib.Core.Path.{_≡_};
 ghost use mathlib.Core.Bool.{true, false, _&&_};
-ghost use Prim.Native.Nat.{_+_, _-_, _≤_};
+ghost use Prim.Native.Nat.{_+_, _*_, _-_, _≤_};
 ghost use lib.Dec.{eqb};
 ghost use lib.ListN.{length, replicate};
 ghost use Rattle.answers.specs.Told.{told, tableTold, startTold};
 ghost use Rattle.crdt.specs.Labels.{largestCounter};
-ghost use Rattle.model.specs.Layout.{mostRelations, mostRecords, blockWords, recordWords, firstWords, zeroWords, schemaWords, word, relations, capacityOf, clockAt, usedAt};
+ghost use Rattle.model.specs.Layout.{wordBytes, mostRelations, mostRecords, blockWords, recordWords, firstWords, zeroWords, schemaWords, word, relations, capacityOf, clockAt, usedAt};
 ghost use Rattle.model.specs.Lists.{each};
 ghost use Rattle.model.specs.Schemas.{broken};
 ghost use Rattle.model.specs.WellFormed.{headerRules, firstsRule, emptyAbove, fieldRule, recordRules, countersRule, chainStep, chainsRise, onChain, restZero, wellFormed};
-ghost use Rattle.model.specs.Calls.{schemaLength, tableLength, tableNumber, startNumber, startTable, valuesPart};
+ghost use Rattle.model.specs.Calls.{schemaLength, tableLength, tableNumber, startNumber, startTable, valuesPart, valuesFirst, valuesFirst};
 ghost use Rattle.table.specs.Rows.{labelUnder, countersUnder, fieldPlaced, fieldsGood, rowGood};
 ghost use Rattle.table.specs.Chains.{walkedChain};
 use answers::StartAnswer;
@@ -293,7 +293,8 @@ pub fn start(table: &mut [u64], replica: u64) -> StartAnswer
 
 // The values of record `index`, a part of the lent table; an empty part where there is no such record.
 pub fn values(table: &[u64], index: usize) -> &[u64]
-    ensures { λ r. ⌜ now r ≡ valuesPart (now (table .entry)) index ⌝ }
+    ensures words { λ r. ⌜ now r ≡ valuesPart (now (table .entry)) index ⌝ }
+    ensures part { λ r. ⌜ (r .ptr .0 ≡ table .entry .ptr .0) × (r .ptr .1 ≡ table .entry .ptr .1 + wordBytes * valuesFirst (now (table .entry)) index) ⌝ }
 {
     if !layout::table_length(table) {
         return &table[0..0];

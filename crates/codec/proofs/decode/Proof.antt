@@ -6,7 +6,8 @@ use borrow.Author.Count.{below-more}
 use native.Mathlib.Omega.{arith}
 use lib.ListN.{length, getD, set, length-set}
 use lib.Seq.{getD-set-same, getD-set-other}
-use Rattle.codec.specs.Bytes.{wordBytes, wordAt}
+use Rattle.model.specs.Layout.{wordBytes}
+use Rattle.codec.specs.Bytes.{wordAt}
 use Rattle.codec.proofs.Words.{decoded}
 use Rattle.codec.proofs.decode.Statement.{statement}
 use Rattle.codec.proofs.decode.Tie as tie

@@ -16,11 +16,11 @@ values-requires c κs = search needs
 
 returns : tie.Need-returns
 returns c =
-    let r = empty-part _ _ (ap length (sym (c .before .values .ensures)) ∙ c .if1 .taken) in
+    let r = empty-part _ _ (ap length (sym (c .before .values .ensures .0)) ∙ c .if1 .taken) in
     (r .number, r .first)
 
 known : (c : tie.Else1) → Given (c .before .before .before .args .table .now) (c .before .before .before .args .index)
-known c = whole-part _ _ (λ h. c .if1 .left (ap length (c .before .values .ensures) ∙ h))
+known c = whole-part _ _ (λ h. c .if1 .left (ap length (c .before .values .ensures .0) ∙ h))
 
 base-requires : tie.Need-base-requires
 base-requires c κs = omega (arith, known c .inside)

@@ -1,13 +1,13 @@
 -- `table::values` meets its contract.
 -- Assumes nothing.
 use Prim.Native.Nat.{_+_}
-use mathlib.Core.Path.{_≡_, sym, _∙_}
+use mathlib.Core.Path.{_≡_, refl, sym, _∙_}
 use native.Mathlib.Omega.{arith}
 use borrow.Author.Tests.{not-true, not-false}
 use Rattle.model.specs.Layout.{base, headWords}
 use Rattle.layout.proofs.Stride.{Inside, index-inside}
 use Rattle.layout.proofs.Words.{part-at}
-use Rattle.table.proofs.Rules.{values-length, values-index, values-given}
+use Rattle.table.proofs.Rules.{values-length, values-index, values-given, first-length, first-index, first-given}
 use borrow.Author.Needs.{needs}
 use Rattle.table.proofs.values.Statement.{statement}
 use Rattle.table.proofs.values.Tie as tie
@@ -28,7 +28,10 @@ part-result-end : tie.Need-part-result-end
 part-result-end c = search needs
 
 returns : tie.Need-returns
-returns c = values-length _ _ _ (c .before .before .table-length .ensures) (not-true _ (c .before .if1 .taken))
+returns c =
+    let x = c .before .before .table-length .ensures in
+    let n = not-true _ (c .before .if1 .taken) in
+    (values-length _ _ _ x n, (refl, omega (arith, first-length _ (c .before .before .before .before .args .index) _ x n)))
 
 bad-index-requires : tie.Need-bad-index-requires
 bad-index-requires c κs = search needs
@@ -43,7 +46,10 @@ part-result-end-2 : tie.Need-part-result-end-2
 part-result-end-2 c = search needs
 
 returns-2 : tie.Need-returns-2
-returns-2 c = values-index _ _ _ (c .before .before .before .before .table-length .ensures) _ (not-false _ (c .before .before .before .if1 .left)) (c .before .before .bad-index .ensures) (c .before .if2 .taken)
+returns-2 c =
+    let x = c .before .before .before .before .table-length .ensures in
+    let y = not-false _ (c .before .before .before .if1 .left) in
+    (values-index _ _ _ x _ y (c .before .before .bad-index .ensures) (c .before .if2 .taken), (refl, omega (arith, first-index _ _ _ x _ y (c .before .before .bad-index .ensures) (c .before .if2 .taken))))
 
 base-requires : tie.Need-base-requires
 base-requires c κs = omega (arith, known c)
@@ -69,7 +75,11 @@ part-result-end-3 c = omega (arith, known (c .before), c .base .ensures)
 returns-3 : tie.Need-returns-3
 returns-3 c =
     let e : c .before .base .result + headWords ≡ base (c .before .before .before .before .before .before .before .args .index) + headWords = omega (arith, c .before .base .ensures) in
-    part-at _ _ _ _ e ∙ values-given _ _ _ (c .before .before .before .before .before .table-length .ensures) _ (not-false _ (c .before .before .before .before .if1 .left)) (c .before .before .before .bad-index .ensures) (c .before .before .if2 .left)
+    let x = c .before .before .before .before .before .table-length .ensures in
+    let y = not-false _ (c .before .before .before .before .if1 .left) in (
+      part-at _ _ _ _ e ∙ values-given _ _ _ x _ y (c .before .before .before .bad-index .ensures) (c .before .before .if2 .left),
+      (refl, omega (arith, e, first-given _ _ _ x _ y (c .before .before .before .bad-index .ensures) (c .before .before .if2 .left))),
+    )
 
 pub values-spec : {M : Type 1} → statement M
 values-spec =
