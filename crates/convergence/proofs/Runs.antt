@@ -105,19 +105,19 @@ module _ (σ : List ℕ) (lent : schemaLength σ ≡ true) (sound : broken σ �
   GoodOpt (some d) = Good σ d
 
   -- what holds at each moment: the tables are good, and "the records of a table are the join of the records of the deltas it took in"
-  pub record Sound (D : ℕ → List Rec) (m : Moment) : Type 0 where
+  pub record Accounted (D : ℕ → List Rec) (m : Moment) : Type 0 where
     pub fleet : (i : ℕ) → Good σ (m .fleet i)
     pub wrote : GoodOpt (m .wrote)
     pub sum : (i : ℕ) → held (m .fleet i) ≡ total D (m .took i)
 
   module _ (D : ℕ → List Rec) (R : (n : ℕ) → Rising 0 (D n)) where
     -- after a call on table i: n is its answer, w its exit words
-    call-sound : (m : Moment) (i n : ℕ) (w taken : List ℕ) (d : Option (List ℕ)) → Sound D m → (n ≡ 0 → Good σ w × (held w ≡ total D taken) × GoodOpt d)
-        → (eqb n 0 ≡ false → w ≡ m .fleet i) → Sound D (afterCall m i n w taken d)
+    call-sound : (m : Moment) (i n : ℕ) (w taken : List ℕ) (d : Option (List ℕ)) → Accounted D m → (n ≡ 0 → Good σ w × (held w ≡ total D taken) × GoodOpt d)
+        → (eqb n 0 ≡ false → w ≡ m .fleet i) → Accounted D (afterCall m i n w taken d)
     unfolding afterCall
     call-sound m i n w taken d s acc ref = go (test (eqb n 0))
       where
-        at : (w′ taken′ : List ℕ) (d′ : Option (List ℕ)) → Good σ w′ → held w′ ≡ total D taken′ → GoodOpt d′ → Sound D (record { fleet = put i w′ (m .fleet); took = put i taken′ (m .took); wrote = d′ })
+        at : (w′ taken′ : List ℕ) (d′ : Option (List ℕ)) → Good σ w′ → held w′ ≡ total D taken′ → GoodOpt d′ → Accounted D (record { fleet = put i w′ (m .fleet); took = put i taken′ (m .took); wrote = d′ })
         at w′ taken′ d′ g e gd =
             record {
               fleet = λ j. cond-ind (Good σ) (eqb j i) w′ (m .fleet j) g (s .fleet j);
@@ -129,19 +129,19 @@ module _ (σ : List ℕ) (lent : schemaLength σ ≡ true) (sound : broken σ �
             pick j true = e
             pick j false = s .sum j
 
-        go : (eqb n 0 ≡ true) ⊎ (eqb n 0 ≡ false) → Sound D (record { fleet = put i w (m .fleet); took = put i (done n taken (m .took i)) (m .took); wrote = done n d none })
+        go : (eqb n 0 ≡ true) ⊎ (eqb n 0 ≡ false) → Accounted D (record { fleet = put i w (m .fleet); took = put i (done n taken (m .took i)) (m .took); wrote = done n d none })
         go (inl p) = let a = acc (eqb-true n 0 p) in rw p (at w taken d (a .0) (a .1) (a .2))
         go (inr p) = rw p (at w (m .took i) none (rw (ref p) (s .fleet i)) (rw (ref p) (s .sum i)) tt)
 
-    merged-sound : (m : Moment) (i : ℕ) (s o ns : List ℕ) → Sound D m → Lent σ (mergeNumber s (m .fleet i) o) s → (mergeNumber s (m .fleet i) o ≡ 0 → held o ≡ total D ns)
-        → Sound D (afterCall m i (mergeNumber s (m .fleet i) o) (mergeTable s (m .fleet i) o) (m .took i ++ ns) none)
+    merged-sound : (m : Moment) (i : ℕ) (s o ns : List ℕ) → Accounted D m → Lent σ (mergeNumber s (m .fleet i) o) s → (mergeNumber s (m .fleet i) o ≡ 0 → held o ≡ total D ns)
+        → Accounted D (afterCall m i (mergeNumber s (m .fleet i) o) (mergeTable s (m .fleet i) o) (m .took i ++ ns) none)
     merged-sound m i s o ns f l e =
         call-sound m i _ _ _ none f
         (λ h. let g = merged-left s (m .fleet i) o h in (subst (λ x. Good x (mergeTable s (m .fleet i) o)) (l h) (g .good), g .holds ∙ cc (f .sum i, e h, total-append D R (m .took i) ns), tt))
         (merge-refused s (m .fleet i) o)
 
-    edited-sound : (m : Moment) (i n k : ℕ) (s w d : List ℕ) → Sound D m → Lent σ n s → (n ≡ 0 → Edited s (m .fleet i) w d) → (eqb n 0 ≡ false → w ≡ m .fleet i) → D k ≡ join [] (heldOpt (done n (some d) none))
-        → Sound D (afterCall m i n w (m .took i ++ (k ∷ [])) (some d))
+    edited-sound : (m : Moment) (i n k : ℕ) (s w d : List ℕ) → Accounted D m → Lent σ n s → (n ≡ 0 → Edited s (m .fleet i) w d) → (eqb n 0 ≡ false → w ≡ m .fleet i) → D k ≡ join [] (heldOpt (done n (some d) none))
+        → Accounted D (afterCall m i n w (m .took i ++ (k ∷ [])) (some d))
     unfolding total
     edited-sound m i n k s w d f l e ref dk =
         call-sound m i n w _ (some d) f
@@ -151,17 +151,17 @@ module _ (σ : List ℕ) (lent : schemaLength σ ≡ true) (sound : broken σ �
 
   module _ (first : Moment) (fresh : (i : ℕ) → Good σ (first .fleet i) × (held (first .fleet i) ≡ []) × (first .took i ≡ [])) (blank : first .wrote ≡ none) where
     module _ (D : ℕ → List Rec) (R : (n : ℕ) → Rising 0 (D n)) where
-      first-sound : Sound D first
+      first-sound : Accounted D first
       unfolding total
       first-sound = record { fleet = λ i. fresh i .0; wrote = rw blank tt; sum = λ i. rw (fresh i .2) (fresh i .1) }
 
-      delta-sound : (h : List Moment) (i k : ℕ) (s : List ℕ) (w : Option (List ℕ)) → getD h k first .wrote ≡ w → Agrees D h → Sound D (getD h 0 first) → Lent σ (mergeNumber s (getD h 0 first .fleet i) (wroteWords w)) s
-          → Sound D (afterCall (getD h 0 first) i (mergeNumber s (getD h 0 first .fleet i) (wroteWords w)) (mergeTable s (getD h 0 first .fleet i) (wroteWords w)) (getD h 0 first .took i ++ (editAgo h k ∷ [])) none)
+      delta-sound : (h : List Moment) (i k : ℕ) (s : List ℕ) (w : Option (List ℕ)) → getD h k first .wrote ≡ w → Agrees D h → Accounted D (getD h 0 first) → Lent σ (mergeNumber s (getD h 0 first .fleet i) (wroteWords w)) s
+          → Accounted D (afterCall (getD h 0 first) i (mergeNumber s (getD h 0 first .fleet i) (wroteWords w)) (mergeTable s (getD h 0 first .fleet i) (wroteWords w)) (getD h 0 first .took i ++ (editAgo h k ∷ [])) none)
       unfolding total
       delta-sound h i k s none e g f l = merged-sound D R _ i s [] _ f l (λ n. absurd (no-words s _ n))
       delta-sound h i k s (some d) e g f l = merged-sound D R _ i s d _ f l (λ n. sym (nil-join (D (editAgo h k)) (R (editAgo h k)) ∙ agrees-at D first blank h k d e g))
 
-      next-sound : (h : List Moment) (c : Call) → Allowed σ first h c → ((k : ℕ) → Sound D (getD h k first)) → Agrees D (next first h c ∷ h) → Sound D (next first h c)
+      next-sound : (h : List Moment) (c : Call) → Allowed σ first h c → ((k : ℕ) → Accounted D (getD h k first)) → Agrees D (next first h c ∷ h) → Accounted D (next first h c)
       unfolding next afterCall total
       next-sound h (start i r) a s g =
           call-sound D R (getD h 0 first) i _ _ _ none (s 0) (λ n. let b = start-good σ (getD h 0 first .fleet i) r lent sound n in (b .good, holds-none _ (b .empty), tt)) (start-refused _ r)
@@ -173,7 +173,7 @@ module _ (σ : List ℕ) (lent : schemaLength σ ≡ true) (sound : broken σ �
       next-sound h (update i s′ d j f new) a s g = edited-sound D R (getD h 0 first) i _ (length h) s′ _ _ (s 0) a (update-edited s′ _ d j f new) (update-refused s′ _ d j f new) (g .0)
       next-sound h (deletion i s′ d j) a s g = edited-sound D R (getD h 0 first) i _ (length h) s′ _ _ (s 0) a (deletion-edited s′ _ d j) (deletion-refused s′ _ d j) (g .0)
 
-      all-sound : (cs : List Call) → Run σ first cs → Agrees D (history first cs) → (k : ℕ) → Sound D (getD (history first cs) k first)
+      all-sound : (cs : List Call) → Run σ first cs → Agrees D (history first cs) → (k : ℕ) → Accounted D (getD (history first cs) k first)
       unfolding history
       all-sound [] f g zero = first-sound
       all-sound [] f g (suc k) = first-sound

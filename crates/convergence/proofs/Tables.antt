@@ -28,7 +28,7 @@ use Rattle.laws.proofs.Drafts.{Drafted}
 use Rattle.wellformed.proofs.Ranges.{listed-length, listed-at}
 use Rattle.wellformed.proofs.Words.{decode-encode, encode-table, start-encodes, enc-capacity, valid-fits}
 use Rattle.wellformed.proofs.Formed.{encode-formed, schema-length}
-use Rattle.wellformed.proofs.Facts.{Sound, schema-sound, Sized, table-sized}
+use Rattle.wellformed.proofs.Facts.{SoundSchema, schema-sound, Sized, table-sized}
 use Rattle.wellformed.proofs.Values.{formed-valid}
 use Rattle.wellformed.proofs.Encoded.{formed-encoded}
 

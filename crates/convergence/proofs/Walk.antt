@@ -22,7 +22,7 @@ use Rattle.model.specs.Calls.{tableNumber, marksOf, marksNumber, marksCount, ma
 use Rattle.convergence.specs.Entries.{entryOf}
 use Rattle.laws.proofs.Lists.{_∈_}
 use Rattle.laws.proofs.Order.{order-rising, order-length, at-order}
-use Rattle.laws.proofs.Members.{rising-distinct, at-member, one-key, in-order}
+use Rattle.laws.proofs.Members.{rising-distinct, at-member, one-record}
 use Rattle.laws.proofs.Valid.{Valid, valid-true}
 use Rattle.laws.proofs.Drafts.{shown-in, shown-has, has-order}
 use Rattle.laws.proofs.Shown.{has-in, in-has}
@@ -44,10 +44,6 @@ walked-more : (n : ℕ) (s t m : List ℕ) (p i : ℕ) → walkGiven s t m p ≡
     → walked (suc n) s t m p ≡ record { given = i ∷ walked n s t m i .given; stop = walked n s t m i .stop }
 unfolding walked
 walked-more n s t m p i e ne = rw (e, ne-eqb i 0 ne)
-
--- two records of one key, of records and of them in order
-one-record : (s : List Rec) (x y : Rec) → Distinct s → x ∈ s → y ∈ inOrder s → x .key ≡ y .key → x ≡ y
-one-record s x y d hx hy e = one-key s d x y hx (in-order s d y hy) e
 
 pub getD-in : {A : Type 0} (l : List A) (n : ℕ) (d : A) → n < length l → getD l n d ∈ l
 getD-in [] n d h = absurd (omega arith)

@@ -17,7 +17,7 @@ use Rattle.model.specs.Calls.{Entry, entryAt}
 use Rattle.convergence.specs.Entries.{valuesOf, entryOf}
 use Rattle.wellformed.proofs.Ranges.{listed-at}
 use Rattle.wellformed.proofs.Follow.{noRec, recordAt}
-use Rattle.wellformed.proofs.Facts.{Sound, schema-sound, Formed, formed, Ruled, ruled}
+use Rattle.wellformed.proofs.Facts.{SoundSchema, schema-sound, Formed, formed, Ruled, ruled}
 use Rattle.wellformed.proofs.Values.{kinds-of, relation-is, label-is}
 
 values-from : (kind v st : ℕ → ℕ) (i F n : ℕ) → F ≤ n → valuesOf (from i F kind) (from i n (λ j. reg (v j) (st j))) ≡ from i F v
@@ -31,7 +31,7 @@ same-entry : (r r′ l l′ : ℕ) (vs vs′ : List ℕ) → r ≡ r′ → l �
 same-entry r r′ l l′ vs vs′ a b c = rw (a, b, c)
 
 module _ (s t : List ℕ) (b : broken s ≡ false) (w : wellFormed s t ≡ true) (i : ℕ) (lo : 1 ≤ i) (hi : i ≤ usedAt t) where
-  sound : Sound s
+  sound : SoundSchema s
   sound = schema-sound s b
 
   rules : Formed s t

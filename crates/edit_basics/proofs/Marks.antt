@@ -27,7 +27,7 @@ use Rattle.references.specs.Resolved.{Marked}
 use Rattle.references.proofs.Places.{Spot, spot, position-is, key-is, label-bounds}
 use Rattle.marks.specs.Marks.{isMarked}
 use Rattle.marks.proofs.Marks.{marked-true, true-marked, marked-none}
-use Rattle.marks.proofs.Members.{record-in, in-record, held as held-in}
+use Rattle.marks.proofs.Members.{record-in, in-record, member-at as held-in}
 use Rattle.edit_basics.specs.Targets.{held, Placed}
 use Rattle.edit_basics.proofs.Turns.{same-test, not-so, NoneTo}
 

@@ -22,7 +22,7 @@ use Rattle.laws.proofs.Lists.{_∈_}
 use Rattle.wellformed.proofs.Follow.{has-none, has-record, same-position, last-is}
 use Rattle.wellformed.proofs.Words.{enc-used}
 use Rattle.edit_delta.specs.Drafting.{linkOf, appended}
-use Rattle.merge_laws.specs.Absorb.{nth, withRecords, Sound, SoundTable}
+use Rattle.merge_laws.specs.Absorb.{nth, withRecords, SoundRecord, SoundTable}
 use Rattle.merge_laws.proofs.Spell.{Spells, encode-spells, spells-encode}
 use Rattle.merge_laws.proofs.Links.{more-length, more-old, more-new, more-has, stays, leads}
 use Rattle.merge_laws.proofs.Frames.{set-here, set-there, fits, sound-key, no-zero}
@@ -78,7 +78,7 @@ module _ (v : Table) (w : SoundTable v) (r l g : ℕ) (a₁ : 1 ≤ r) (a₂ : r
       go (inl e) = absurd (omega (arith, top (place r l) e))
       go (inr e) = e
 
-  X-sound : Sound (flagOnly fields (place r l) g)
+  X-sound : SoundRecord (flagOnly fields (place r l) g)
   X-sound =
       record {
         least = rw of-r a₁;
@@ -102,7 +102,7 @@ module _ (v : Table) (w : SoundTable v) (r l g : ℕ) (a₁ : 1 ≤ r) (a₂ : r
       apart y (List·Memᴰ·head e) = rw (e, fresh-key (place r l) g) fresh
       apart y (List·Memᴰ·tail m) = absurd (List·Memᴰ·not-nil m)
 
-      go : (i : ℕ) → 1 ≤ i → i ≤ length (v .records) + 1 → (leb i (length (v .records)) ≡ true) ⊎ (leb i (length (v .records)) ≡ false) → Sound (nth s' i)
+      go : (i : ℕ) → 1 ≤ i → i ≤ length (v .records) + 1 → (leb i (length (v .records)) ≡ true) ⊎ (leb i (length (v .records)) ≡ false) → SoundRecord (nth s' i)
       go i x y (inl e) = let h = leb-true i (length (v .records)) e in rw (more-old s X i x h) (w .sound i x h)
       go i x y (inr e) = let h = leb-false i (length (v .records)) e in rw (more-new s X i (omega arith)) X-sound
 

@@ -18,7 +18,7 @@ use Rattle.wellformed.proofs.Values.{relation-is, label-is, label-bounds, recor
 use Rattle.wellformed.proofs.Links.{formed-first, formed-next}
 use Rattle.edit_delta.specs.Drafting.{Ready, Source}
 
-single-of : (s t : List ℕ) → Rattle.wellformed.proofs.Facts.Sound s → Rattle.wellformed.proofs.Facts.Formed s t → distinct (decode t .records) ≡ true
+single-of : (s t : List ℕ) → Rattle.wellformed.proofs.Facts.SoundSchema s → Rattle.wellformed.proofs.Facts.Formed s t → distinct (decode t .records) ≡ true
 unfolding decode
 single-of s t a b = records-distinct s t a b
 

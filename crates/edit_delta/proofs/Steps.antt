@@ -28,8 +28,8 @@ use Rattle.laws.proofs.Drafts.{redone-flag}
 use Rattle.laws.proofs.Fields.{label-within}
 use Rattle.wellformed.proofs.Follow.{Follows, Last, follows}
 use Rattle.edit_delta.specs.Picked.{draftOf}
-use Rattle.edit_delta.specs.Drafting.{Source, Edited, held, new, keyOf, wanted, drafted, marked, endOf, appended, stepped}
-use Rattle.merge_laws.specs.Absorb.{withRecords, Sound, SoundTable}
+use Rattle.edit_delta.specs.Drafting.{Source, Edited, existing, new, keyOf, wanted, drafted, marked, endOf, appended, stepped}
+use Rattle.merge_laws.specs.Absorb.{withRecords, SoundRecord, SoundTable}
 use Rattle.edit_delta.proofs.Behind.{fresh-key, fresh-flag, fresh-wide}
 use Rattle.edit_delta.proofs.Below.{under, under-rising, under-has, under-none, under-gap, under-all, under-next}
 use Rattle.edit_delta.proofs.Wanted.{nth-in, recs-length, recs-at, recs-has, recs-index, key-of, same-index, own-redone, draft-rising, draft-at, draft-few, draft-new, draft-has}
@@ -99,7 +99,7 @@ pub record Stands (t : List ℕ) (r i : ℕ) : Type 0 where
 
 module _ (t m : List ℕ) (src : Source t m) where
   pub kind : (e n : ℕ) → Edited t e n → HeldKey t e n ⊎ NewKey t e n
-  kind e n (held a b c) = inl (record { least = a; most = b; is = key-held t e n a; has = rw (key-held t e n a) (recs-has t e a b); named = c })
+  kind e n (existing a b c) = inl (record { least = a; most = b; is = key-held t e n a; has = rw (key-held t e n a) (recs-has t e a b); named = c })
   kind e n (new z a b c) =
       let r = replica-bounds (replicaAt t) (src .replica) in
       let q = label-new t c (src .replica) in
@@ -215,7 +215,7 @@ module _ (t m : List ℕ) (src : Source t m) where
         go (inr p) false = rw (none-cell p, p) (opt-none none)
 
     -- all of them are sound
-    sound-flag : (k f r l : ℕ) → k ≡ place r l → 1 ≤ r → r ≤ mostRelations → 1 ≤ l → l < labelSpan → f ≤ largestFlag → (x : Rec) → x .key ≡ k → x .cell ≡ flagOnly fields k f .cell → Sound x
+    sound-flag : (k f r l : ℕ) → k ≡ place r l → 1 ≤ r → r ≤ mostRelations → 1 ≤ l → l < labelSpan → f ≤ largestFlag → (x : Rec) → x .key ≡ k → x .cell ≡ flagOnly fields k f .cell → SoundRecord x
     sound-flag k f r l z a b c d g x p q =
         record {
           least = omega arith;
@@ -229,25 +229,25 @@ module _ (t m : List ℕ) (src : Source t m) where
     flag-of i a b true = redone-flag (flagAt t i) (src .flagged i a b)
     flag-of i a b false = omega arith
 
-    wanted-sound : (x : Rec) → x ∈ wanted t (keyOf t e n) m → Sound x
+    wanted-sound : (x : Rec) → x ∈ wanted t (keyOf t e n) m → SoundRecord x
     wanted-sound x h = go (wanted-has (x .key) (in-has F x (x .key) h refl)) (at-member F x (rising-distinct 0 F wanted-rising) h)
       where
         some-is : (p q : Cell) → _≡_ {A = Option Cell} (some p) (some q) → p ≡ q
         some-is p q z = cc
 
-        own-of : (i : ℕ) → 1 ≤ i → i ≤ usedAt t → recordOf t i .key ≡ x .key → (b : Bool) → cond b (some (flagOnly fields (recordOf t i .key) (cond (marked m i) (redone (flagAt t i)) 0) .cell)) none ≡ some (x .cell) → Sound x
+        own-of : (i : ℕ) → 1 ≤ i → i ≤ usedAt t → recordOf t i .key ≡ x .key → (b : Bool) → cond b (some (flagOnly fields (recordOf t i .key) (cond (marked m i) (redone (flagAt t i)) 0) .cell)) none ≡ some (x .cell) → SoundRecord x
         own-of i a b z true y =
             let o = src .below i a b in
             sound-flag (recordOf t i .key) (cond (marked m i) (redone (flagAt t i)) 0) (relationAt t i) (labelAt t i) (key-of t i) (src .least i a b) (src .most i a b) (src .above i a b) (omega (arith, src .clock)) (flag-of i a b (marked m i)) x (sym z) (sym (some-is _ _ y))
         own-of i a b z false y = nothing (x .cell) y
 
-        go : (has (decode t .records) (x .key) ≡ true) ⊎ (x .key ≡ keyOf t e n) → at (x .key) (wanted t (keyOf t e n) m) ≡ some (x .cell) → Sound x
+        go : (has (decode t .records) (x .key) ≡ true) ⊎ (x .key ≡ keyOf t e n) → at (x .key) (wanted t (keyOf t e n) m) ≡ some (x .cell) → SoundRecord x
         go (inl p) y =
             let o = own-key (x .key) p in
             own-of (o .index) (o .least) (o .most) (o .keyed) (marked m (o .index) || eqb (o .index) e) (sym (wanted-own (o .index) (o .least) (o .most)) ∙ rw (o .keyed) y)
         go (inr p) y = other (kind e n ed)
           where
-            other : HeldKey t e n ⊎ NewKey t e n → Sound x
+            other : HeldKey t e n ⊎ NewKey t e n → SoundRecord x
             other (inl w) =
                 let o = own-key (keyOf t e n) (w .has) in
                 own-of (o .index) (o .least) (o .most) (o .keyed ∙ sym p) (marked m (o .index) || eqb (o .index) e) (sym (wanted-own (o .index) (o .least) (o .most)) ∙ rw (o .keyed) (rw p at y))

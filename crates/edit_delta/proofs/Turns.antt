@@ -21,7 +21,7 @@ use Rattle.model.specs.Tables.{recordOf, decode, encode}
 use Rattle.model.specs.Edits.{newLabel, newRecord, flagOnly, withRegister}
 use Rattle.wellformed.proofs.Words.{enc-used, encode-length}
 use Rattle.edit_delta.specs.Picked.{draftOf}
-use Rattle.edit_delta.specs.Drafting.{Source, Edited, held, new, Ready, ReadyToInsert, ReadyToUpdate, ReadyToDelete, keyOf, drafted, endOf, linkOf, appended, marked, Steppable, stepped, registered, allRegistered, Findable, Found}
+use Rattle.edit_delta.specs.Drafting.{Source, Edited, existing, new, Ready, ReadyToInsert, ReadyToUpdate, ReadyToDelete, keyOf, drafted, endOf, linkOf, appended, marked, Steppable, stepped, registered, allRegistered, Findable, Found}
 use Rattle.merge_laws.proofs.Frames.{fits}
 use Rattle.edit_delta.proofs.Wanted.{key-of}
 use Rattle.edit_delta.proofs.Steps.{cursor, cursor-at, cursor-end, Stands, HeldKey, NewKey, kind, label-new, key-held, drafted-sound, step-words, first-words, next-words, relation-words, new-words, begin-drafted, end-drafted}
@@ -198,10 +198,10 @@ module _ (s t d m : List ℕ) where
   insertion-edited r vs q = new refl (q .least) (q .most) (q .clock)
 
   pub update-edited : (i f : ℕ) → ReadyToUpdate s t d i f m → Edited t i 0
-  update-edited i f q = held (q .least) (q .most) refl
+  update-edited i f q = existing (q .least) (q .most) refl
 
   pub deletion-edited : (i : ℕ) → ReadyToDelete s t d i m → Edited t i 0
-  deletion-edited i q = held (q .least) (q .most) refl
+  deletion-edited i q = existing (q .least) (q .most) refl
 
   pub insertion-findable : (r : ℕ) (vs : List ℕ) (q : ReadyToInsert s t d r vs m) (d₁ : List ℕ) (l : ℕ) → d₁ ≡ encode (draftOf t (clockAt t) (flagOnly fields (keyOf t 0 r) 0) m) → l ≡ newLabel (decode t) → Findable d₁ r l
   insertion-findable r vs q d₁ l p z = rw (p, z) (go (kind t m src 0 r ed))
@@ -239,7 +239,7 @@ module _ (s t d m : List ℕ) where
     src = source s t d m q
 
     ed : Edited t i 0
-    ed = held a b refl
+    ed = existing a b refl
 
     key-place : keyOf t i 0 ≡ place (relationAt t i) (labelAt t i)
     key-place = key-held t i 0 a ∙ key-of t i

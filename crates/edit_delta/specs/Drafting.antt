@@ -72,7 +72,7 @@ pub record Source (t m : List ℕ) : Type 0 where
 
 -- The edited record: that of index e (n is 0), or a new one of relation n (e is 0).
 pub data Edited (t : List ℕ) (e n : ℕ) : Type 0 where
-  held : 1 ≤ e → e ≤ usedAt t → n ≡ 0 → Edited t e n
+  existing : 1 ≤ e → e ≤ usedAt t → n ≡ 0 → Edited t e n
   new : e ≡ 0 → 1 ≤ n → n ≤ mostRelations → clockAt t < largestCounter → Edited t e n
 
 -- Its key.

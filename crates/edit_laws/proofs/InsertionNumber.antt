@@ -26,7 +26,7 @@ use Rattle.laws.proofs.Checks.{passed}
 use Rattle.laws.proofs.Fields.{place-relation, stampedBy, stamped-length, values-length}
 use Rattle.wellformed.proofs.Ranges.{listed-at, listed-length}
 use Rattle.wellformed.proofs.Formed.{schema-length}
-use Rattle.wellformed.proofs.Facts.{Sound, schema-sound, Formed, formed}
+use Rattle.wellformed.proofs.Facts.{SoundSchema, schema-sound, Formed, formed}
 use Rattle.references.specs.Order.{Checked}
 use Rattle.references.proofs.Places.{key-relation, recs-length}
 use Rattle.list_keys.specs.Keys.{valuesConflict, valuesAt}
@@ -115,7 +115,7 @@ module _ (s t : List ℕ) (c : Checked s t) (r : ℕ) (vs : List ℕ) where
   abbrev x : Rec
   x = newRecord fields (decode t) r vs
 
-  sound : Sound s
+  sound : SoundSchema s
   sound = schema-sound s (c .schema)
 
   fm : Formed s t

@@ -17,14 +17,7 @@ use Rattle.model.specs.Shown.{complete, targets, references, live, standing, ke
 use Rattle.model.specs.Edits.{flagIn, flagOf}
 use Rattle.laws.proofs.Lists.{_∈_, in-some}
 use Rattle.laws.proofs.Shown.{has-in, settled-part, kept-in, standing-in, standing-live, standing-closed, standing-least}
-use Rattle.laws.proofs.Members.{at-member, at-key}
-
--- of one key, one record
-pub one-record : (c : List Rec) (x y : Rec) → Distinct c → x ∈ c → y ∈ c → x .key ≡ y .key → x ≡ y
-one-record c x y d mx my e =
-    let p : some (x .cell) ≡ some (y .cell) = sym (at-key c x (y .key) d mx e) ∙ at-member c y d my in
-    let q : x .cell ≡ y .cell = cc in
-    λ i. record { key = e i; cell = q i }
+use Rattle.laws.proofs.Members.{at-key, one-key}
 
 module _ (σ : List Relation) (c : List Rec) (d : Distinct c) where
   -- a standing record other than that of key k references it by abort
@@ -42,7 +35,7 @@ module _ (σ : List Relation) (c : List Rec) (d : Distinct c) where
   hops : (y x : Rec) → y ∈ c → Stands (y .key) → x ∈ c → complete σ x ≡ true → x .key ∈ targets σ isAbort y → Stands (x .key)
   unfolding Stands Guarded
   hops y x my p mx e t =
-      let same : p .0 ≡ y = one-record c (p .0) y d (standing-in σ c (p .0) (p .1) .0) my (p .2) in
+      let same : p .0 ≡ y = one-key c d (p .0) y (standing-in σ c (p .0) (p .1) .0) my (p .2) in
       let sy : y ∈ standing σ c = rw same at (p .1) in
       go sy (test (eqb (y .key) (x .key)))
     where

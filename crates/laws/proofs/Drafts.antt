@@ -120,9 +120,9 @@ module _ {w : ℕ} {σ : List Relation} (narrow : (r : ℕ) → length (relation
   c : List Rec
   c = inOrder (v .records)
 
-  held : (x : Rec) → x ∈ c → ValidRecord w σ (v .clock) x
+  valid-in : (x : Rec) → x ∈ c → ValidRecord w σ (v .clock) x
   unfolding c
-  held x m = order-valid (v .clock) (v .records) (good .records) x m
+  valid-in x m = order-valid (v .clock) (v .records) (good .records) x m
 
   held-old : (k : ℕ) → has c k ≡ true → has (v .records) k ≡ true
   unfolding c
@@ -136,7 +136,7 @@ module _ {w : ℕ} {σ : List Relation} (narrow : (r : ℕ) → length (relation
     counted : counterOf (k % labelSpan) ≤ v .clock
 
   known : (k : ℕ) → has c k ≡ true → Known k
-  known k h = let r = has-in c k h in let f = held (r .0) (r .1) in subst Known (r .2) (record { least = f .least; most = f .most; labelled = f .labelled; counted = f .counted })
+  known k h = let r = has-in c k h in let f = valid-in (r .0) (r .1) in subst Known (r .2) (record { least = f .least; most = f .most; labelled = f .labelled; counted = f .counted })
 
   c-distinct : Distinct c
   unfolding c
@@ -147,7 +147,7 @@ module _ {w : ℕ} {σ : List Relation} (narrow : (r : ℕ) → length (relation
   flag-held k = go (test (has c k))
     where
       go : (has c k ≡ true) ⊎ (has c k ≡ false) → flagIn (at k c) ≤ largestFlag
-      go (inl p) = let r = has-in c k p in rw (at-key c (r .0) k c-distinct (r .1) (r .2)) (held (r .0) (r .1) .flagged)
+      go (inl p) = let r = has-in c k p in rw (at-key c (r .0) k c-distinct (r .1) (r .2)) (valid-in (r .0) (r .1) .flagged)
       go (inr p) = rw (absent c k p) (omega arith)
 
   -- a record of which only the flag changed
@@ -387,7 +387,7 @@ module _ {w : ℕ} {σ : List Relation} (narrow : (r : ℕ) → length (relation
       let x = recordAt v i in
       let ks = relationNumbered σ (relation x) .kinds in
       let k = getD ks (f - 1) 0 in
-      let held′ = shown-has σ c (x .key) (unnot _ (p .0)) in
+      let valid-in′ = shown-has σ c (x .key) (unnot _ (p .0)) in
       let seven = unnot _ (p .1 .0) in
       let range = and-left (leb 1 f && leb f (length ks)) _ seven in
       let l : 1 ≤ f = leb-true 1 f (and-left (leb 1 f) _ range) in
@@ -396,14 +396,14 @@ module _ {w : ℕ} {σ : List Relation} (narrow : (r : ℕ) → length (relation
       let s = unnot _ (p .1 .1 .0) in
       let clock = raised (p .1 .1 .1 .1 .0) in
       drafted _ (withRegister (flagOnly w (x .key) 0) f (reg new (newLabel v))) (updateRedoes σ c x k (registerAt x f .value) new) refl (omega arith) clock
-      (redoes-few two x k (registerAt x f .value) new) (one-valid (x .key) f new (known (x .key) held′) l m q s clock) (redoes-held x k (registerAt x f .value) new) (inl (one-old x f _ held′))
+      (redoes-few two x k (registerAt x f .value) new) (one-valid (x .key) f new (known (x .key) valid-in′) l m q s clock) (redoes-held x k (registerAt x f .value) new) (inl (one-old x f _ valid-in′))
 
   pub deletion-drafted : (i : ℕ) → lowest (deletion w σ v i .checks) ≡ 0 → Drafted w σ v (deletion w σ v i)
   unfolding deletion all-of c deletionRedoes
   deletion-drafted i h =
       let p = passed _ refl h in
       let x = recordAt v i in
-      let held′ = shown-has σ c (x .key) (unnot _ (p .0)) in
+      let valid-in′ = shown-has σ c (x .key) (unnot _ (p .0)) in
       let ts = only (λ t. not (eqb t (x .key)) && supported σ c (x .key) t) (targets σ isAbort x) in
       drafted _ (flagOnly w (x .key) (deleted (x .cell .flag))) (odd c ts) refl (omega arith) (good .clock)
-      (omega (arith, odd-length ts, only-length (λ t. not (eqb t (x .key)) && supported σ c (x .key) t) (targets σ isAbort x), targets-few isAbort x)) (flag-valid (v .clock) (x .key) _ (omega arith) (known (x .key) held′) (deleted-flag _ (at-flag i))) (odd-held ts) (inl (flag-old (x .key) _ held′))
+      (omega (arith, odd-length ts, only-length (λ t. not (eqb t (x .key)) && supported σ c (x .key) t) (targets σ isAbort x), targets-few isAbort x)) (flag-valid (v .clock) (x .key) _ (omega arith) (known (x .key) valid-in′) (deleted-flag _ (at-flag i))) (odd-held ts) (inl (flag-old (x .key) _ valid-in′))

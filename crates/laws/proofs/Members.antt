@@ -81,6 +81,10 @@ in-order s d x h =
     let e : y .0 ≡ x = λ i. record { key = y .2 i; cell = f i } in
     rw e at (y .1)
 
+-- a record, and one in list order, of one key
+pub one-record : (s : List Rec) (x y : Rec) → Distinct s → x ∈ s → y ∈ inOrder s → x .key ≡ y .key → x ≡ y
+one-record s x y d hx hy e = one-key s d x y hx (in-order s d y hy) e
+
 pub order-in : (s : List Rec) → Distinct s → (x : Rec) → x ∈ s → x ∈ inOrder s
 order-in s d x h =
     let a = at-order (x .key) s ∙ at-member s x d h in

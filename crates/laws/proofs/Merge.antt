@@ -41,12 +41,12 @@ own-joined : (k : ℕ) (b : List Rec) (x : Rec) → own k (joinedWith b x) ≡ c
 unfolding own joinedWith joinOpt
 own-joined k b x = go (test (eqb k (x .key)))
   where
-    held : (o : Option Cell) → some (joinHeld (x .cell) o) ≡ joinOpt (some (x .cell)) o
-    held none = refl
-    held (some c) = refl
+    joins : (o : Option Cell) → some (joinHeld (x .cell) o) ≡ joinOpt (some (x .cell)) o
+    joins none = refl
+    joins (some c) = refl
 
     go : (eqb k (x .key) ≡ true) ⊎ (eqb k (x .key) ≡ false) → cond (eqb k (x .key)) (some (joinHeld (x .cell) (at (x .key) b))) none ≡ cond (eqb k (x .key)) (joinOpt (cond (eqb k (x .key)) (some (x .cell)) none) (at k b)) none
-    go (inl p) = let e : k ≡ x .key = eqb-true k (x .key) p in rw p (rw e (held (at (x .key) b)))
+    go (inl p) = let e : k ≡ x .key = eqb-true k (x .key) p in rw p (rw e (joins (at (x .key) b)))
     go (inr p) = rw p
 
 -- joining with b under each key that is held

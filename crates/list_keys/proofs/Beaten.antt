@@ -19,7 +19,7 @@ use Rattle.model.specs.Shown.{conflictOn, conflict, described, standing, beaten
 use Rattle.laws.proofs.Lists.{_∈_, only-in, in-only, some-in, in-some}
 use Rattle.laws.proofs.Shown.{standing-in, kept-in}
 use Rattle.marks.specs.Marks.{isMarked}
-use Rattle.marks.proofs.Members.{in-record, held, holds}
+use Rattle.marks.proofs.Members.{in-record, member-at, holds}
 use Rattle.marks.proofs.Chain.{own-relation}
 use Rattle.references.specs.Resolved.{Marked}
 use Rattle.list_keys.specs.Buckets.{beatenOn, losesOn}
@@ -131,7 +131,7 @@ module _ (s t : List ℕ) (b : broken s ≡ false) (w : wellFormed s t ≡ true)
       kept-none e = go (test (has (kept (schemaOf s) stands) (recordOf t i .key)))
         where
           go : (has (kept (schemaOf s) stands) (recordOf t i .key) ≡ true) ⊎ (has (kept (schemaOf s) stands) (recordOf t i .key) ≡ false) → 0 ≡ after s t i
-          go (inl p) = clash (member-marked s t b w stands k mk i a g (kept-in (schemaOf s) stands _ (held s t b w (kept (schemaOf s) stands) kept-part i a g p))) e
+          go (inl p) = clash (member-marked s t b w stands k mk i a g (kept-in (schemaOf s) stands _ (member-at s t b w (kept (schemaOf s) stands) kept-part i a g p))) e
           go (inr p) = rw p
 
       kept-beaten : beaten (schemaOf s) stands (recordOf t i) ≡ true → 0 ≡ after s t i
@@ -139,7 +139,7 @@ module _ (s t : List ℕ) (b : broken s ≡ false) (w : wellFormed s t ≡ true)
       kept-beaten e = go (test (has (kept (schemaOf s) stands) (recordOf t i .key)))
         where
           go : (has (kept (schemaOf s) stands) (recordOf t i .key) ≡ true) ⊎ (has (kept (schemaOf s) stands) (recordOf t i .key) ≡ false) → 0 ≡ after s t i
-          go (inl p) = clash e (not-true _ (only-in (λ (x : Rec). not (beaten (schemaOf s) stands x)) (recordOf t i) stands (held s t b w (kept (schemaOf s) stands) kept-part i a g p) .1))
+          go (inl p) = clash e (not-true _ (only-in (λ (x : Rec). not (beaten (schemaOf s) stands x)) (recordOf t i) stands (member-at s t b w (kept (schemaOf s) stands) kept-part i a g p) .1))
           go (inr p) = rw p
 
       kept-one : isMarked k i ≡ true → beaten (schemaOf s) stands (recordOf t i) ≡ false → 1 ≡ after s t i

@@ -22,7 +22,7 @@ use Rattle.model.specs.WellFormed.{wellFormed}
 use Rattle.model.specs.Shown.{described, value, equalOn, conflictOn, conflict}
 use Rattle.wellformed.proofs.Ranges.{listed-at}
 use Rattle.wellformed.proofs.ListRanges.{map-from, span}
-use Rattle.wellformed.proofs.Facts.{Sound, schema-sound, Formed, formed, Ruled, ruled}
+use Rattle.wellformed.proofs.Facts.{SoundSchema, schema-sound, Formed, formed, Ruled, ruled}
 use Rattle.wellformed.proofs.Values.{relation-is}
 use Rattle.layout.proofs.Stride.{capacity-in}
 use Rattle.list_keys.specs.Keys.{registers, valuesConflict, valuesAt}
@@ -108,7 +108,7 @@ pub few-of : (s t : List ℕ) (i r : ℕ) → r ≡ relationAt t i → fieldCoun
 few-of s t i r e h = rw e h
 
 module _ (s t : List ℕ) (b : broken s ≡ false) (w : wellFormed s t ≡ true) where
-  sound : Sound s
+  sound : SoundSchema s
   sound = schema-sound s b
 
   fm : Formed s t

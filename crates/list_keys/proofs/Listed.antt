@@ -15,7 +15,7 @@ use Rattle.model.specs.WellFormed.{wellFormed}
 use Rattle.laws.proofs.Lists.{_∈_}
 use Rattle.marks.specs.Marks.{isMarked}
 use Rattle.marks.proofs.Marks.{marked-true, true-marked}
-use Rattle.marks.proofs.Members.{held, holds}
+use Rattle.marks.proofs.Members.{member-at, holds}
 use Rattle.references.specs.Resolved.{Marked}
 
 cond-one : (x : Bool) → cond {A = ℕ} x 1 0 ≡ 1 → x ≡ true
@@ -40,7 +40,7 @@ module _ (s t : List ℕ) (b : broken s ≡ false) (w : wellFormed s t ≡ true)
   member-marked i a g h = has-marked i a g (holds s t b w l i h)
 
   pub marked-member : ((x : Rec) → x ∈ l → x ∈ inOrder (decode t .records)) → (i : ℕ) → 1 ≤ i → i ≤ usedAt t → isMarked m i ≡ true → recordOf t i ∈ l
-  marked-member part i a g h = held s t b w l part i a g (marked-has i a g h)
+  marked-member part i a g h = member-at s t b w l part i a g (marked-has i a g h)
 
 abbrev pub mark : Bool → ℕ
 mark x = cond x 1 0

@@ -20,12 +20,12 @@ use Rattle.laws.proofs.Lists.{_∈_}
 use Rattle.laws.proofs.Shown.{standing-in, kept-in, settled-part, settled-largest, shown-references}
 use Rattle.marks.specs.Marks.{isMarked}
 use Rattle.marks.proofs.Marks.{marked-true, true-marked}
-use Rattle.marks.proofs.Members.{in-record, held, holds}
+use Rattle.marks.proofs.Members.{in-record, member-at, holds}
 use Rattle.references.specs.Resolved.{Resolves, Marked}
 use Rattle.references.specs.Order.{Checked}
 use Rattle.list_keys.proofs.Listed.{marked-has, has-marked}
 use Rattle.list_settled.specs.Rounds.{groundedAt, dropsAt, droppedAt}
-use Rattle.list_settled.proofs.Grounded.{Held, grounded-held, held-grounded}
+use Rattle.list_settled.proofs.Grounded.{LedTo, grounded-held, held-grounded}
 
 abbrev pub keptOf : List ℕ → List ℕ → List Rec
 keptOf s t = kept (schemaOf s) (standing (schemaOf s) (inOrder (decode t .records)))
@@ -94,15 +94,15 @@ module _ (s t : List ℕ) (ck : Checked s t) where
         upper = λ i a l h. marked-has s t (ck .schema) (ck .formed) (keptOf s t) m mk i a l h;
         lower = λ i a l h.
             has-marked s t (ck .schema) (ck .formed) (keptOf s t) m mk i a l
-            (holds s t (ck .schema) (ck .formed) (keptOf s t) i (shown-kept (recordOf t i) (held s t (ck .schema) (ck .formed) (shownOf s t) shown-part i a l h)));
+            (holds s t (ck .schema) (ck .formed) (keptOf s t) i (shown-kept (recordOf t i) (member-at s t (ck .schema) (ck .formed) (shownOf s t) shown-part i a l h)));
       }
 
   module _ (refs m : List ℕ) (rs : Resolves s t refs) (bt : Between s t m) where
     -- a shown record is grounded
     shown-grounded : (i : ℕ) → 1 ≤ i → i ≤ usedAt t → has (shownOf s t) (recordOf t i .key) ≡ true → groundedAt refs m i ≡ true
-    shown-grounded i a l h = held-grounded s t refs m ck rs i a l (λ k g. lead k (shown-references (schemaOf s) ordered (recordOf t i) (held s t (ck .schema) (ck .formed) (shownOf s t) shown-part i a l h) k g))
+    shown-grounded i a l h = held-grounded s t refs m ck rs i a l (λ k g. lead k (shown-references (schemaOf s) ordered (recordOf t i) (member-at s t (ck .schema) (ck .formed) (shownOf s t) shown-part i a l h) k g))
       where
-        lead : (k : ℕ) → (y : Rec) × (y ∈ shownOf s t) × (y .key ≡ k) → Held t m k
+        lead : (k : ℕ) → (y : Rec) × (y ∈ shownOf s t) × (y .key ≡ k) → LedTo t m k
         lead k y =
             let r = in-record s t (ck .schema) (ck .formed) (y .0) (shown-part (y .0) (y .1)) in
             let q : recordOf t (r .0) ∈ shownOf s t = rw (r .3) at (y .1) in
@@ -161,7 +161,7 @@ module _ (s t : List ℕ) (ck : Checked s t) where
           (recordOf t (h .index), (h .index, h .from-one, h .within, refl, h .marked), h .keyed)
 
       within : (x : Rec) → Marks x → x ∈ keptOf s t
-      within x p = rw (p .3) (held s t (ck .schema) (ck .formed) (keptOf s t) kept-part (p .0) (p .1) (p .2) (bt .upper (p .0) (p .1) (p .2) (p .4)))
+      within x p = rw (p .3) (member-at s t (ck .schema) (ck .formed) (keptOf s t) kept-part (p .0) (p .1) (p .2) (bt .upper (p .0) (p .1) (p .2) (p .4)))
 
       marked-shown : (i : ℕ) → 1 ≤ i → i ≤ usedAt t → isMarked m i ≡ true → has (shownOf s t) (recordOf t i .key) ≡ true
       unfolding shown

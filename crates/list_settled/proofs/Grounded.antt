@@ -27,7 +27,7 @@ use Rattle.list_settled.specs.Rounds.{leadsOn, groundedAt}
 use Rattle.list_settled.proofs.Targets.{refers, aim, target-field, field-target}
 
 -- a marked record with key k
-pub record Held (t m : List ℕ) (k : ℕ) : Type 0 where
+pub record LedTo (t m : List ℕ) (k : ℕ) : Type 0 where
   pub index : ℕ
   pub from-one : 1 ≤ index
   pub within : index ≤ usedAt t
@@ -74,7 +74,7 @@ module _ (s t refs m : List ℕ) (ck : Checked s t) (rs : Resolves s t refs) whe
   few = omega (arith, formed s t (ck .formed) .used, table-sized t (ck .long) .capacity)
 
   -- the position of a marked record's key
-  position-of : (k : ℕ) → Held t m k → (q : ℕ) × (q ≡ position k recs) × (1 ≤ q) × (q ≤ usedAt t) × (isMarked m q ≡ true)
+  position-of : (k : ℕ) → LedTo t m k → (q : ℕ) × (q ≡ position k recs) × (1 ≤ q) × (q ≤ usedAt t) × (isMarked m q ≡ true)
   position-of k h =
       let i = h .index in
       let e : getD recs (i - 1) noRec .key ≡ k = ap (λ (x : Rec). x .key) (recs-at i (h .from-one) (h .within)) ∙ h .keyed in
@@ -99,7 +99,7 @@ module _ (s t refs m : List ℕ) (ck : Checked s t) (rs : Resolves s t refs) whe
     unfolding resolvedAt
     empty-resolved j e = rw e
 
-    pub grounded-held : groundedAt refs m i ≡ true → (k : ℕ) → k ∈ targets (schemaOf s) isReference (recordOf t i) → Held t m k
+    pub grounded-held : groundedAt refs m i ≡ true → (k : ℕ) → k ∈ targets (schemaOf s) isReference (recordOf t i) → LedTo t m k
     unfolding groundedAt
     grounded-held h k g =
         let r = target-field s t (ck .schema) (ck .formed) isReference i a l k g in
@@ -108,7 +108,7 @@ module _ (s t refs m : List ℕ) (ck : Checked s t) (rs : Resolves s t refs) whe
         let y : leadsOn m (found (position (goal j) recs)) ≡ true = rw z at (each-at fields (λ j. leadsOn m (getD refs (fields * (i - 1) + (j - 1)) 0)) j h (r .1) (r .2)) in
         rw (r .4) (go (goal j) y (test (has recs (goal j))))
       where
-        go : (k : ℕ) → leadsOn m (found (position k recs)) ≡ true → (has recs k ≡ true) ⊎ (has recs k ≡ false) → Held t m k
+        go : (k : ℕ) → leadsOn m (found (position k recs)) ≡ true → (has recs k ≡ true) ⊎ (has recs k ≡ false) → LedTo t m k
         go k y (inr e) = absurd (leads-found m (found (position k recs)) y (found-none (position k recs) (position-none k recs e)))
         go k y (inl e) =
             let p = position-some k recs e in
@@ -123,7 +123,7 @@ module _ (s t refs m : List ℕ) (ck : Checked s t) (rs : Resolves s t refs) whe
               marked = leads-marked m (position k recs) y′ n;
             }
 
-    pub held-grounded : ((k : ℕ) → k ∈ targets (schemaOf s) isReference (recordOf t i) → Held t m k) → groundedAt refs m i ≡ true
+    pub held-grounded : ((k : ℕ) → k ∈ targets (schemaOf s) isReference (recordOf t i) → LedTo t m k) → groundedAt refs m i ≡ true
     unfolding groundedAt
     held-grounded f = each-all fields _ (λ j g h. rw (rs .at i j a l g h) (go j g h (test (reads j))))
       where

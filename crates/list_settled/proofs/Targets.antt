@@ -17,7 +17,7 @@ use Rattle.model.specs.Tables.{recordOf}
 use Rattle.model.specs.WellFormed.{wellFormed}
 use Rattle.model.specs.Shown.{described, leads, targets}
 use Rattle.laws.proofs.Lists.{_∈_}
-use Rattle.wellformed.proofs.Facts.{Sound, schema-sound, Formed, formed, Ruled, ruled}
+use Rattle.wellformed.proofs.Facts.{SoundSchema, schema-sound, Formed, formed, Ruled, ruled}
 use Rattle.wellformed.proofs.Values.{kinds-of, relation-is}
 
 module _ (p : ℕ → Bool) (kind v st : ℕ → ℕ) where
@@ -71,7 +71,7 @@ module _ (p : ℕ → Bool) (kind v st : ℕ → ℕ) where
       go (high q) ih = absurd (omega arith)
 
 module _ (s t : List ℕ) (b : broken s ≡ false) (w : wellFormed s t ≡ true) (p : ℕ → Bool) (i : ℕ) (a : 1 ≤ i) (l : i ≤ usedAt t) where
-  sound : Sound s
+  sound : SoundSchema s
   sound = schema-sound s b
 
   fm : Formed s t

@@ -28,7 +28,7 @@ use Rattle.wellformed.proofs.Follow.{noRec}
 use Rattle.wellformed.proofs.Ranges.{listed-length, listed-at}
 use Rattle.wellformed.proofs.Facts.{formed}
 use Rattle.convergence.proofs.Rising.{Few, shown-few}
-use Rattle.marks.proofs.Members.{records-once, in-record, held}
+use Rattle.marks.proofs.Members.{records-once, in-record, member-at}
 use Rattle.laws.proofs.Shown.{in-has}
 use Rattle.list_keys.proofs.Listed.{mark}
 use Rattle.references.specs.Resolved.{Marked}
@@ -103,7 +103,7 @@ module _ (s t : List ℕ) (ck : Checked s t) where
       back : (x : Rec) → x ∈ recs → has (shownOf s t) (x .key) ≡ true → x ∈ shownOf s t
       back x h e =
           let r = in-record s t (ck .schema) (ck .formed) x (order-in recs (records-once s t (ck .schema) (ck .formed)) x h) in
-          rw (r .3) (held s t (ck .schema) (ck .formed) (shownOf s t) (shown-part s t ck) (r .0) (r .1) (r .2) (rw (r .3) at e))
+          rw (r .3) (member-at s t (ck .schema) (ck .formed) (shownOf s t) (shown-part s t ck) (r .0) (r .1) (r .2) (rw (r .3) at e))
 
   shown-count : length (shownOf s t) ≡ length (only isShown recs)
   shown-count = ap length shown-in-order ∙ order-length (only isShown recs) (only-distinct isShown recs (records-once s t (ck .schema) (ck .formed)))

@@ -19,7 +19,7 @@ use Rattle.model.specs.Tables.{decode, recordOf}
 use Rattle.model.specs.Shown.{complete, live, standing}
 use Rattle.laws.proofs.Lists.{_∈_}
 use Rattle.laws.proofs.Order.{order-rising, at-order}
-use Rattle.laws.proofs.Members.{at-member, rising-distinct, one-key, in-order}
+use Rattle.laws.proofs.Members.{at-member, rising-distinct, one-record}
 use Rattle.laws.proofs.Valid.{distinct-true}
 use Rattle.laws.proofs.Drafts.{has-order}
 use Rattle.laws.proofs.Shown.{has-in, in-has, standing-in, standing-live, standing-closed}
@@ -29,10 +29,6 @@ use Rattle.references.specs.Resolved.{absent, found, resolvedAt}
 use Rattle.references.proofs.Places.{Spot, spot, used-most, recs-length, recs-distinct, at-position, has-key, position-is}
 use Rattle.list_standing.specs.Work.{standingOf}
 use Rattle.list_standing.proofs.Fields.{target-in}
-
--- two records of one key, of records and of them in order
-one-record : (s : List Rec) (x y : Rec) → Distinct s → x ∈ s → y ∈ inOrder s → x .key ≡ y .key → x ≡ y
-one-record s x y d hx hy e = one-key s d x y hx (in-order s d y hy) e
 
 getD-in : {A : Type 0} (l : List A) (n : ℕ) (d : A) → n < length l → getD l n d ∈ l
 getD-in [] n d h = absurd (omega arith)

@@ -25,7 +25,7 @@ use Rattle.wellformed.proofs.Values.{records-distinct, has-from}
 use Rattle.marks.specs.Marks.{isMarked}
 use Rattle.marks.proofs.Marks.{marked-true, true-marked}
 use Rattle.marks.proofs.Chain.{On, Before, left, labels, own-relation, first-on, first-before, next-on, next-before, next-less, one-label}
-use Rattle.list_walk.specs.Sound.{Sound}
+use Rattle.list_walk.specs.Walkable.{Walkable}
 use Rattle.list_walk.proofs.Marked.{marked-has, has-marked}
 
 -- record j comes up to index i of relation r; 0 stands at the end of the chain
@@ -99,7 +99,7 @@ on-of : (t : List ℕ) (r i : ℕ) → (i ≡ 0) ⊎ On t r i → (i ≡ 0 → �
 on-of t r i (inl e) n = absurd (n e)
 on-of t r i (inr o) n = o
 
-module _ (t m : List ℕ) (sd : Sound t) (k : ℕ) where
+module _ (t m : List ℕ) (sd : Walkable t) (k : ℕ) where
   abbrev s : List ℕ
   s = sd .schema
 
@@ -205,7 +205,7 @@ module _ (t m : List ℕ) (sd : Sound t) (k : ℕ) where
   goes-far r i h z = ltb-true r mostRelations (sym (cond-zero i (ltb r mostRelations) (not (isMarked m i)) z) ∙ h)
 
 -- the start: the place's own key is past
-module _ (t m : List ℕ) (sd : Sound t) (q : ℕ) (l : q ≤ usedAt t) where
+module _ (t m : List ℕ) (sd : Walkable t) (q : ℕ) (l : q ≤ usedAt t) where
   abbrev recs : List Rec
   recs = decode t .records
 

@@ -14,7 +14,7 @@ use Rattle.model.specs.Schemas.{broken}
 use Rattle.model.specs.Records.{leastAbove, position}
 use Rattle.model.specs.Tables.{decode}
 use Rattle.model.specs.WellFormed.{wellFormed}
-use Rattle.list_walk.specs.Sound.{Sound}
+use Rattle.list_walk.specs.Walkable.{Walkable}
 use Rattle.model.specs.Calls.{schemaLength, tableLength, marksLength, marked, placeKey, walkNumber, walkGiven, walkEnded, walkPlace}
 
 module _ (s t m : List ℕ) (p : ℕ) where
@@ -65,5 +65,5 @@ module _ (s t m : List ℕ) (p : ℕ) where
 pub not-wrong : (s t m : List ℕ) (p : ℕ) (x : Bool) → x ≡ wrong s t m p → x ≡ false → wrong s t m p ≡ false
 not-wrong s t m p x e f = sym e ∙ f
 
-pub is-sound : (s t : List ℕ) → broken s ≡ false → wellFormed s t ≡ true → Sound t
+pub is-sound : (s t : List ℕ) → broken s ≡ false → wellFormed s t ≡ true → Walkable t
 is-sound s t b w = record { schema = s; whole = b; formed = w }

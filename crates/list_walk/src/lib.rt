@@ -9,7 +9,7 @@ ghost use Rattle.model.specs.Records.{leastAbove, position};
 ghost use Rattle.model.specs.Tables.{decode};
 ghost use Rattle.model.specs.Calls.{schemaLength, tableLength, marksLength, marked, placeKey, walkNumber, walkGiven, walkEnded, walkPlace};
 ghost use Rattle.marks.specs.Marks.{isMarked};
-ghost use Rattle.list_walk.specs.Sound.{Sound};
+ghost use Rattle.list_walk.specs.Walkable.{Walkable};
 use answers::WalkAnswer;
 
 // The relation of the record at a place, 0 before the first.
@@ -56,7 +56,7 @@ fn goes_on(marks: &[u8], r: usize, i: usize) -> bool
 
 // The next marked record after a place, 0 where there is none.
 fn after(table: &[u64], marks: &[u8], place: usize) -> usize
-    requires { ⌜ Sound (now table) × (place ≤ usedAt (now table)) ⌝ }
+    requires { ⌜ Walkable (now table) × (place ≤ usedAt (now table)) ⌝ }
     ensures { λ x. ⌜ x ≡ position (leastAbove (placeKey (decode (now (table .entry))) place) (marked (now (marks .entry)) (decode (now (table .entry)) .records))) (decode (now (table .entry)) .records) ⌝ }
 {
     let from = relation_of(table, place);

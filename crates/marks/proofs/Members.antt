@@ -60,9 +60,9 @@ module _ (s t : List ℕ) (b : broken s ≡ false) (w : wellFormed s t ≡ true)
       (r .0, r .1, omega (arith, r .2), r .3)
 
   -- a list of records of the table that has the key of a record has the record
-  pub held : (l : List Rec) → ((x : Rec) → x ∈ l → x ∈ inOrder (decode t .records)) → (i : ℕ) → 1 ≤ i → i ≤ usedAt t
+  pub member-at : (l : List Rec) → ((x : Rec) → x ∈ l → x ∈ inOrder (decode t .records)) → (i : ℕ) → 1 ≤ i → i ≤ usedAt t
       → has l (recordOf t i .key) ≡ true → recordOf t i ∈ l
-  held l part i a g h =
+  member-at l part i a g h =
       let y = has-in l (recordOf t i .key) h in
       let e = one-key (inOrder (decode t .records)) ordered-once (y .0) (recordOf t i) (part (y .0) (y .1)) (record-in i a g) (y .2) in
       rw e at (y .1)

@@ -18,20 +18,20 @@ use Rattle.model.specs.WellFormed.{wellFormed}
 use Rattle.model.specs.Merge.{mergedRecords, merged, tooMany}
 use Rattle.model.specs.Calls.{schemaLength, tableLength, mergeNumber, mergeTable}
 use Rattle.laws.proofs.Checks.{passed}
-use Rattle.merge_laws.specs.Absorb.{held, Whole, Mergeable}
+use Rattle.merge_laws.specs.Absorb.{recordsIn, Whole, Mergeable}
 use Rattle.merge_laws.proofs.Chain.{merged-missing, missing-within}
 use Rattle.merge_laws.proofs.Wholes.{formed-whole, formed-mergeable}
 use Rattle.model.specs.Records.{place}
 use Rattle.answers.specs.Told.{Told, told}
 
 -- how many records a merge gives at most
-pub merged-small : (t b : List ℕ) → Whole t → Whole b → length (mergedRecords (held t) (held b)) ≤ mostRecords + mostRecords
+pub merged-small : (t b : List ℕ) → Whole t → Whole b → length (mergedRecords (recordsIn t) (recordsIn b)) ≤ mostRecords + mostRecords
 merged-small t b wt wb =
     let v = wt .value in
     let u = wb .value in
-    omega (arith, merged-missing (held t) b wb, missing-within (held t) (held b) (place 1 0) (u .single), v .room, v .most, u .room, u .most)
+    omega (arith, merged-missing (recordsIn t) b wb, missing-within (recordsIn t) (recordsIn b) (place 1 0) (u .single), v .room, v .most, u .room, u .most)
 
-pub full-is : (t b : List ℕ) (c u n : ℕ) → c ≡ capacityOf t → u ≡ usedAt t → usedAt t + n ≡ length (mergedRecords (held t) (held b)) → ltb c (u + n) ≡ tooMany (decode t) (decode b)
+pub full-is : (t b : List ℕ) (c u n : ℕ) → c ≡ capacityOf t → u ≡ usedAt t → usedAt t + n ≡ length (mergedRecords (recordsIn t) (recordsIn b)) → ltb c (u + n) ≡ tooMany (decode t) (decode b)
 unfolding tooMany decode
 full-is t b c u n e d h = rw (e, d) (ap (ltb (capacityOf t)) h)
 

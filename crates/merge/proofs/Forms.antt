@@ -14,7 +14,7 @@ use Rattle.model.specs.Layout.{fields, mostRelations, mostRecords, headWords, u
 use Rattle.model.specs.Records.{place, position}
 use Rattle.model.specs.Tables.{Table, decode, encode, encodeHeader}
 use Rattle.model.specs.Merge.{mergedRecords, merged}
-use Rattle.merge_laws.specs.Absorb.{nth, held, withRecords, withClock, spaced, absorb, ahead, missing, Open, Takeable, Chained, Taken, Whole, Linked, precedes, meets, Sought, Seekable, Mergeable, added, fieldJoined, fieldsJoined, flagJoined, recordJoined}
+use Rattle.merge_laws.specs.Absorb.{nth, recordsIn, withRecords, withClock, spaced, absorb, ahead, missing, Open, Takeable, Chained, Taken, Whole, Linked, precedes, meets, Sought, Seekable, Mergeable, added, fieldJoined, fieldsJoined, flagJoined, recordJoined}
 use Rattle.merge_laws.proofs.Walk.{link-on, ahead-less, used-is}
 use Rattle.merge_laws.proofs.Take.{take-open, take-bounds, take-done}
 use Rattle.merge_laws.proofs.Chain.{Along, along-end, along-seek, along-take, along-on, going-linked, Counting, count-end, count-seek, count-on, count-linked, taken-all, merged-missing, missing-none}
@@ -34,24 +34,24 @@ unfolding added
 added-is t t₁ t₂ t₃ t₄ t₅ link r l next n at a b c d e f g h = rw (h, g, f, e, d, c, b, a)
 
 -- the walk along a chain of the own table
-module _ (t : List ℕ) (label from link : ℕ) (q : Seekable t label from) (inv : (r : ℕ) → 1 ≤ r → r ≤ mostRelations → Linked (held t) r label from → Linked (held t) r label link) where
+module _ (t : List ℕ) (label from link : ℕ) (q : Seekable t label from) (inv : (r : ℕ) → 1 ≤ r → r ≤ mostRelations → Linked (recordsIn t) r label from → Linked (recordsIn t) r label link) where
   pub seek-in : precedes t link label ≡ true → (1 ≤ word t link) × (word t link ≤ mostRecords)
   seek-in p =
       let w = q .whole in
       let n = link-on t w (q .relation) label (q .least) (q .most) link (inv (q .relation) (q .least) (q .most) (q .linked)) p in
       (n .0, omega (arith, n .1, w .value .room, w .value .most))
 
-  pub seek-less : precedes t link label ≡ true → (i at : ℕ) → i ≡ word t link → at ≡ base i → ahead (held t) (word t at) < ahead (held t) (word t link)
+  pub seek-less : precedes t link label ≡ true → (i at : ℕ) → i ≡ word t link → at ≡ base i → ahead (recordsIn t) (word t at) < ahead (recordsIn t) (word t link)
   unfolding nextAt
   seek-less p i at e d =
       let w = q .whole in
       let n = link-on t w (q .relation) label (q .least) (q .most) link (inv (q .relation) (q .least) (q .most) (q .linked)) p in
       rw (d, e) (ahead-less t w (word t link) (n .0) (n .1))
 
-  pub seek-again : precedes t link label ≡ true → (i at : ℕ) → i ≡ word t link → at ≡ base i → (r : ℕ) → 1 ≤ r → r ≤ mostRelations → Linked (held t) r label from → Linked (held t) r label at
+  pub seek-again : precedes t link label ≡ true → (i at : ℕ) → i ≡ word t link → at ≡ base i → (r : ℕ) → 1 ≤ r → r ≤ mostRelations → Linked (recordsIn t) r label from → Linked (recordsIn t) r label at
   seek-again p i at e d r r₁ r₂ l = rw (d, e) (link-on t (q .whole) r label r₁ r₂ link (inv r r₁ r₂ l) p .2)
 
-  pub seek-done : precedes t link label ≡ false → (r : ℕ) → 1 ≤ r → r ≤ mostRelations → Linked (held t) r label from → Sought t r label link
+  pub seek-done : precedes t link label ≡ false → (r : ℕ) → 1 ≤ r → r ≤ mostRelations → Linked (recordsIn t) r label from → Sought t r label link
   seek-done p r r₁ r₂ l = record { linked = inv r r₁ r₂ l; stops = p }
 
 pub used-most : (t : List ℕ) → Whole t → usedAt t ≤ mostRecords
@@ -92,18 +92,18 @@ clock-words : (v : Table) (c : ℕ) → set (encode v) clockWord c ≡ encode (w
 unfolding encode encodeHeader
 clock-words v c = refl
 
-pub act-is : (t t₁ t₂ b : List ℕ) (x y c : ℕ) → x ≡ clockAt t → y ≡ clockAt b → c ≡ max x y → t₁ ≡ encode (withRecords (decode t) (mergedRecords (held t) (held b))) → t₂ ≡ set t₁ clockWord c
+pub act-is : (t t₁ t₂ b : List ℕ) (x y c : ℕ) → x ≡ clockAt t → y ≡ clockAt b → c ≡ max x y → t₁ ≡ encode (withRecords (decode t) (mergedRecords (recordsIn t) (recordsIn b))) → t₂ ≡ set t₁ clockWord c
     → t₂ ≡ encode (merged (decode t) (decode b))
 unfolding merged decode
-act-is t t₁ t₂ b x y c e d g h k = k ∙ rw (h, g, e, d) (clock-words (withRecords (decode t) (mergedRecords (held t) (held b))) (max (clockAt t) (clockAt b)))
+act-is t t₁ t₂ b x y c e d g h k = k ∙ rw (h, g, e, d) (clock-words (withRecords (decode t) (mergedRecords (recordsIn t) (recordsIn b))) (max (clockAt t) (clockAt b)))
 
 -- the count
-pub count-all : (t b : List ℕ) (wt : Whole t) (wb : Whole b) (n r : ℕ) → r ≤ mostRelations + 1 → mostRelations < r → n + missing (held t) (place r 0) (held b) ≡ missing (held t) (place 1 0) (held b)
-    → usedAt t + n ≡ length (mergedRecords (held t) (held b))
+pub count-all : (t b : List ℕ) (wt : Whole t) (wb : Whole b) (n r : ℕ) → r ≤ mostRelations + 1 → mostRelations < r → n + missing (recordsIn t) (place r 0) (recordsIn b) ≡ missing (recordsIn t) (place 1 0) (recordsIn b)
+    → usedAt t + n ≡ length (mergedRecords (recordsIn t) (recordsIn b))
 count-all t b wt wb n r h p e =
     let q : r ≡ mostRelations + 1 = omega arith in
-    let z : n + missing (held t) (place (mostRelations + 1) 0) (held b) ≡ missing (held t) (place 1 0) (held b) = rw q at e in
-    omega (arith, used-is t wt, missing-none (held t) b wb, merged-missing (held t) b wb)
+    let z : n + missing (recordsIn t) (place (mostRelations + 1) 0) (recordsIn b) ≡ missing (recordsIn t) (place 1 0) (recordsIn b) = rw q at e in
+    omega (arith, used-is t wt, missing-none (recordsIn t) b wb, merged-missing (recordsIn t) b wb)
 
 pub fields-none : (t b : List ℕ) (i j : ℕ) → t ≡ fieldsJoined 0 t i b j
 unfolding fieldsJoined
@@ -114,17 +114,17 @@ module _ (t b : List ℕ) (j a r l : ℕ) (q : Takeable t b j a) (e : r ≡ rela
   pub take-space : Open t r l a
   take-space = rw (e, d) (take-open t b j a q)
 
-  module _ (t₁ : List ℕ) (i : ℕ) (g : t₁ ≡ encode (withRecords (decode t) (spaced (held t) (place r l)))) (h : i ≡ position (place r l) (spaced (held t) (place r l))) where
+  module _ (t₁ : List ℕ) (i : ℕ) (g : t₁ ≡ encode (withRecords (decode t) (spaced (recordsIn t) (place r l)))) (h : i ≡ position (place r l) (spaced (recordsIn t) (place r l))) where
     pub take-join : (i ≤ mostRecords) × (flagAt t₁ i ≤ largestFlag) × (flagAt b j ≤ largestFlag)
     take-join = let n = take-bounds t b j a q t₁ i (rw (e, d) at g) (rw (e, d) at h) in (n .1, n .4, n .5)
 
-    pub take-is : (t₂ : List ℕ) → t₂ ≡ recordJoined t₁ i b j → t₂ ≡ encode (withRecords (decode t) (absorb (held t) (nth (held b) j)))
+    pub take-is : (t₂ : List ℕ) → t₂ ≡ recordJoined t₁ i b j → t₂ ≡ encode (withRecords (decode t) (absorb (recordsIn t) (nth (recordsIn b) j)))
     take-is t₂ k = take-done t b j a q t₁ t₂ i (rw (e, d) at g) (rw (e, d) at h) k
 
 abbrev pub Seeks : List ℕ → ℕ → ℕ → ℕ → Type 0
-Seeks t l a a' = (r : ℕ) → 1 ≤ r → r ≤ mostRelations → Linked (held t) r l a → Sought t r l a'
+Seeks t l a a' = (r : ℕ) → 1 ≤ r → r ≤ mostRelations → Linked (recordsIn t) r l a → Sought t r l a'
 
-sought-at : (t b : List ℕ) (r j a l a' : ℕ) → 1 ≤ r → r ≤ mostRelations → l ≡ labelAt b j → Linked (held t) r (labelAt b j) a → Seeks t l a a' → Sought t r (labelAt b j) a'
+sought-at : (t b : List ℕ) (r j a l a' : ℕ) → 1 ≤ r → r ≤ mostRelations → l ≡ labelAt b j → Linked (recordsIn t) r (labelAt b j) a → Seeks t l a a' → Sought t r (labelAt b j) a'
 sought-at t b r j a l a' r₁ r₂ e k s = (rw e at s) r r₁ r₂ k
 
 -- a chain counted
@@ -135,7 +135,7 @@ module _ (t b : List ℕ) (wt : Whole t) (wb : Whole b) (r : ℕ) (r₁ : 1 ≤ 
   pub count-turn : 0 < j → (l l' a' x j' : ℕ) → l ≡ labelAt b j → Seeks t l a a' → l' ≡ labelAt b j → x ≡ cond (meets t a' l') 0 1 → j' ≡ nextAt b j → Counting t b r j' a' (n + x)
   count-turn p l l' a' x j' e s d c h = count-on t b wt wb r r₁ r₂ j a n g p a' j' (n + x) (sought-at t b r j a l a' r₁ r₂ e (count-linked t b wt wb r r₁ r₂ j a n g p) s) h (rw (c, d))
 
-  pub count-done : j ≤ 0 → n + missing (held t) (place (r + 1) 0) (held b) ≡ missing (held t) (place r 0) (held b)
+  pub count-done : j ≤ 0 → n + missing (recordsIn t) (place (r + 1) 0) (recordsIn b) ≡ missing (recordsIn t) (place r 0) (recordsIn b)
   count-done p = count-end t b wt wb r r₁ r₂ j a n g (omega arith)
 
 small : (x : ℕ) (c : Bool) → x ≡ cond c 0 1 → x ≤ 1
@@ -156,13 +156,13 @@ module _ (t₀ t b : List ℕ) (r : ℕ) (c : Chained t₀ b r) (j a : ℕ) (g :
   pub chain-takes : (l a' : ℕ) → 0 < j → l ≡ labelAt b j → Seeks t l a a' → Takeable t b j a'
   chain-takes l a' p e s = along-take t₀ b r c t j a g p a' (chain-sought l a' p e s)
 
-  pub chain-turn : (l a' j' : ℕ) (t' : List ℕ) → 0 < j → l ≡ labelAt b j → Seeks t l a a' → t' ≡ encode (withRecords (decode t) (absorb (held t) (nth (held b) j))) → j' ≡ nextAt b j → Along t₀ t' b r j' a'
+  pub chain-turn : (l a' j' : ℕ) (t' : List ℕ) → 0 < j → l ≡ labelAt b j → Seeks t l a a' → t' ≡ encode (withRecords (decode t) (absorb (recordsIn t) (nth (recordsIn b) j))) → j' ≡ nextAt b j → Along t₀ t' b r j' a'
   chain-turn l a' j' t' p e s d h = along-on t₀ b r c t j a g p a' (chain-sought l a' p e s) t' j' d h
 
-  pub chain-done : j ≤ 0 → Taken t₀ t (held b) (place r 0) (place (r + 1) 0)
+  pub chain-done : j ≤ 0 → Taken t₀ t (recordsIn b) (place r 0) (place (r + 1) 0)
   chain-done p = along-end t₀ b r c t j a g (omega arith)
 
 -- all chains taken in
-pub chains-all : (t₀ t b : List ℕ) (r : ℕ) → Mergeable t₀ b → r ≤ mostRelations + 1 → mostRelations < r → Taken t₀ t (held b) (place 1 0) (place r 0)
-    → t ≡ encode (withRecords (decode t₀) (mergedRecords (held t₀) (held b)))
+pub chains-all : (t₀ t b : List ℕ) (r : ℕ) → Mergeable t₀ b → r ≤ mostRelations + 1 → mostRelations < r → Taken t₀ t (recordsIn b) (place 1 0) (place r 0)
+    → t ≡ encode (withRecords (decode t₀) (mergedRecords (recordsIn t₀) (recordsIn b)))
 chains-all t₀ t b r m h p k = let q : r ≡ mostRelations + 1 = omega arith in taken-all t₀ b m t (rw q at k)

@@ -11,7 +11,7 @@ ghost use Rattle.model.specs.Tables.{decode, encode};
 ghost use Rattle.model.specs.Merge.{mergedRecords, merged, tooMany};
 ghost use Rattle.model.specs.Calls.{mergeNumber, mergeTable};
 ghost use Rattle.answers.specs.Told.{told, mergeTold};
-ghost use Rattle.merge_laws.specs.Absorb.{nth, held, withRecords, spaced, absorb, missing, Whole, Linked, precedes, meets, Sought, Seekable, Open, Takeable, Chained, Taken, Mergeable, added, fieldJoined, fieldsJoined, flagJoined, recordJoined};
+ghost use Rattle.merge_laws.specs.Absorb.{nth, recordsIn, withRecords, spaced, absorb, missing, Whole, Linked, precedes, meets, Sought, Seekable, Open, Takeable, Chained, Taken, Mergeable, added, fieldJoined, fieldsJoined, flagJoined, recordJoined};
 use answers::MergeAnswer;
 
 // Whether the record that word `link` leads to has a label below `label`.
@@ -33,7 +33,7 @@ fn meets(own: &[u64], link: usize, label: u64) -> bool
 // The link where a label belongs, from the link `from` on.
 fn seek(own: &[u64], from: usize, label: u64) -> usize
     requires { ⌜ Seekable (now own) label from ⌝ }
-    ensures { λ a. ⌜ ((r : ℕ) → 1 ≤ r → r ≤ mostRelations → Linked (held (now (own .entry))) r label from → Sought (now (own .entry)) r label a) ⌝ }
+    ensures { λ a. ⌜ ((r : ℕ) → 1 ≤ r → r ≤ mostRelations → Linked (recordsIn (now (own .entry))) r label from → Sought (now (own .entry)) r label a) ⌝ }
 {
     let mut link = from;
     while precedes(own, link, label) {
@@ -60,8 +60,8 @@ fn add(own: &mut [u64], link: usize, relation: usize, label: u64)
 // The index of the record of that relation and label, whose link was sought; it is added where there is none.
 fn space(own: &mut [u64], link: usize, relation: usize, label: u64) -> usize
     requires { ⌜ Open (now own) relation label link ⌝ }
-    ensures words { λ _. ⌜ now (own .exit) ≡ encode (withRecords (decode (now (own .entry))) (spaced (held (now (own .entry))) (place relation label))) ⌝ }
-    ensures index { λ i. ⌜ i ≡ position (place relation label) (spaced (held (now (own .entry))) (place relation label)) ⌝ }
+    ensures words { λ _. ⌜ now (own .exit) ≡ encode (withRecords (decode (now (own .entry))) (spaced (recordsIn (now (own .entry))) (place relation label))) ⌝ }
+    ensures index { λ i. ⌜ i ≡ position (place relation label) (spaced (recordsIn (now (own .entry))) (place relation label)) ⌝ }
 {
     if meets(own, link, label) {
         return layout::word(own, link) as usize;
@@ -120,7 +120,7 @@ fn join(own: &mut [u64], i: usize, other: &[u64], j: usize)
 // Takes in record `j` of the other table, whose link was sought.
 fn take(own: &mut [u64], link: usize, other: &[u64], j: usize)
     requires { ⌜ Takeable (now own) (now other) j link ⌝ }
-    ensures { λ _. ⌜ now (own .exit) ≡ encode (withRecords (decode (now (own .entry))) (absorb (held (now (own .entry))) (nth (held (now (other .entry))) j))) ⌝ }
+    ensures { λ _. ⌜ now (own .exit) ≡ encode (withRecords (decode (now (own .entry))) (absorb (recordsIn (now (own .entry))) (nth (recordsIn (now (other .entry))) j))) ⌝ }
 {
     let relation = layout::relation_at(other, j);
     let label = layout::label_at(other, j);
@@ -131,7 +131,7 @@ fn take(own: &mut [u64], link: usize, other: &[u64], j: usize)
 // Takes in the records of a relation, both chains side by side.
 fn take_chain(own: &mut [u64], other: &[u64], relation: usize)
     requires { ⌜ Chained (now own) (now other) relation ⌝ }
-    ensures { λ _. ⌜ Taken (now (own .entry)) (now (own .exit)) (held (now (other .entry))) (place relation 0) (place (relation + 1) 0) ⌝ }
+    ensures { λ _. ⌜ Taken (now (own .entry)) (now (own .exit)) (recordsIn (now (other .entry))) (place relation 0) (place (relation + 1) 0) ⌝ }
 {
     let mut link = layout::FIRST_WORDS + (relation - 1);
     let mut j = layout::first_at(other, relation);
@@ -144,7 +144,7 @@ fn take_chain(own: &mut [u64], other: &[u64], relation: usize)
 
 fn take_chains(own: &mut [u64], other: &[u64])
     requires { ⌜ Mergeable (now own) (now other) ⌝ }
-    ensures { λ _. ⌜ now (own .exit) ≡ encode (withRecords (decode (now (own .entry))) (mergedRecords (held (now (own .entry))) (held (now (other .entry))))) ⌝ }
+    ensures { λ _. ⌜ now (own .exit) ≡ encode (withRecords (decode (now (own .entry))) (mergedRecords (recordsIn (now (own .entry))) (recordsIn (now (other .entry))))) ⌝ }
 {
     let mut relation = 1;
     while relation <= layout::MOST_RELATIONS {
@@ -182,7 +182,7 @@ fn absent(own: &[u64], link: usize, label: u64) -> usize
 // How many records of a relation of the other table the own lacks.
 fn missing_in(own: &[u64], other: &[u64], relation: usize) -> usize
     requires { ⌜ Whole (now own) × Whole (now other) × (1 ≤ relation) × (relation ≤ mostRelations) ⌝ }
-    ensures { λ n. ⌜ n + missing (held (now (own .entry))) (place (relation + 1) 0) (held (now (other .entry))) ≡ missing (held (now (own .entry))) (place relation 0) (held (now (other .entry))) ⌝ }
+    ensures { λ n. ⌜ n + missing (recordsIn (now (own .entry))) (place (relation + 1) 0) (recordsIn (now (other .entry))) ≡ missing (recordsIn (now (own .entry))) (place relation 0) (recordsIn (now (other .entry))) ⌝ }
 {
     let mut link = layout::FIRST_WORDS + (relation - 1);
     let mut j = layout::first_at(other, relation);
@@ -198,7 +198,7 @@ fn missing_in(own: &[u64], other: &[u64], relation: usize) -> usize
 // How many records of the other table the own lacks.
 pub fn missing(own: &[u64], other: &[u64]) -> usize
     requires { ⌜ Whole (now own) × Whole (now other) ⌝ }
-    ensures { λ n. ⌜ usedAt (now (own .entry)) + n ≡ length (mergedRecords (held (now (own .entry))) (held (now (other .entry)))) ⌝ }
+    ensures { λ n. ⌜ usedAt (now (own .entry)) + n ≡ length (mergedRecords (recordsIn (now (own .entry))) (recordsIn (now (other .entry)))) ⌝ }
 {
     let mut relation = 1;
     let mut count = 0;

@@ -19,7 +19,7 @@ use Rattle.laws.proofs.Merge.{append-distinct}
 use Rattle.laws.proofs.Lists.{_∈_}
 use Rattle.wellformed.proofs.Follow.{has-none, has-record, same-position}
 use Rattle.wellformed.proofs.Words.{enc-used}
-use Rattle.merge_laws.specs.Absorb.{nth, withRecords, blank, Sound, SoundTable, added}
+use Rattle.merge_laws.specs.Absorb.{nth, withRecords, blank, SoundRecord, SoundTable, added}
 use Rattle.merge_laws.proofs.Spell.{Spells, encode-spells, spells-encode}
 use Rattle.merge_laws.proofs.Links.{more-length, more-old, more-new, stays, leads, goes-on}
 use Rattle.merge_laws.proofs.Frames.{set-here, set-there, fits, sound-key, no-zero}
@@ -61,7 +61,7 @@ module _ (v : Table) (w : SoundTable v) (r l : ℕ) (a₁ : 1 ≤ r) (a₂ : r �
   of-l : blank (place r l) .key % labelSpan ≡ l
   of-l = rw (blank-key (place r l)) (omega arith)
 
-  blank-sound : Sound (blank (place r l))
+  blank-sound : SoundRecord (blank (place r l))
   blank-sound =
       record {
         least = rw of-r a₁;
@@ -85,7 +85,7 @@ module _ (v : Table) (w : SoundTable v) (r l : ℕ) (a₁ : 1 ≤ r) (a₂ : r �
       apart y (List·Memᴰ·head e) = rw (e, blank-key (place r l)) new
       apart y (List·Memᴰ·tail m) = absurd (List·Memᴰ·not-nil m)
 
-      go : (i : ℕ) → 1 ≤ i → i ≤ length (v .records) + 1 → (leb i (length (v .records)) ≡ true) ⊎ (leb i (length (v .records)) ≡ false) → Sound (nth s' i)
+      go : (i : ℕ) → 1 ≤ i → i ≤ length (v .records) + 1 → (leb i (length (v .records)) ≡ true) ⊎ (leb i (length (v .records)) ≡ false) → SoundRecord (nth s' i)
       go i x y (inl e) = let h = leb-true i (length (v .records)) e in rw (more-old s (blank (place r l)) i x h) (w .sound i x h)
       go i x y (inr e) = let h = leb-false i (length (v .records)) e in rw (more-new s (blank (place r l)) i (omega arith)) blank-sound
 

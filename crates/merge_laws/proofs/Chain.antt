@@ -19,7 +19,7 @@ use Rattle.laws.proofs.Members.{order-rising-same}
 use Rattle.laws.proofs.Merge.{new, append-nil}
 use Rattle.laws.proofs.Valid.{distinct-true}
 use Rattle.wellformed.proofs.Follow.{Follows, Last, follows}
-use Rattle.merge_laws.specs.Absorb.{nth, held, withRecords, absorb, beyond, missing, ahead, SoundTable, Whole, Linked, first, meets, Sought, Seekable, Takeable, Chained, Taken, Mergeable}
+use Rattle.merge_laws.specs.Absorb.{nth, recordsIn, withRecords, absorb, beyond, missing, ahead, SoundTable, Whole, Linked, first, meets, Sought, Seekable, Takeable, Chained, Taken, Mergeable}
 use Rattle.merge_laws.proofs.Frames.{no-zero}
 use Rattle.merge_laws.proofs.Step.{step}
 use Rattle.merge_laws.proofs.Beyond.{beyond-rising, beyond-next, beyond-last, beyond-all, beyond-none, follower-first}
@@ -63,55 +63,55 @@ module _ (t b : List ℕ) (wt : Whole t) (wb : Whole b) (r : ℕ) (r₁ : 1 ≤ 
       }
 
   module _ (j a : ℕ) (g : Going t b r j a) where
-    leads : Follows (held b) r (g .key) j ⊎ Last (held b) r (g .key) j
-    leads = subst (λ (i : ℕ). Follows (held b) r (g .key) i ⊎ Last (held b) r (g .key) i) (sym (g .index)) (follows (held b) r (g .key) (no-zero (decode b) (wb .value)))
+    leads : Follows (recordsIn b) r (g .key) j ⊎ Last (recordsIn b) r (g .key) j
+    leads = subst (λ (i : ℕ). Follows (recordsIn b) r (g .key) i ⊎ Last (recordsIn b) r (g .key) i) (sym (g .index)) (follows (recordsIn b) r (g .key) (no-zero (decode b) (wb .value)))
 
-    pub going-end : j ≡ 0 → beyond (g .key) (held b) ≡ beyond (place (r + 1) 0) (held b)
+    pub going-end : j ≡ 0 → beyond (g .key) (recordsIn b) ≡ beyond (place (r + 1) 0) (recordsIn b)
     going-end e = go leads
       where
-        go : Follows (held b) r (g .key) j ⊎ Last (held b) r (g .key) j → beyond (g .key) (held b) ≡ beyond (place (r + 1) 0) (held b)
+        go : Follows (recordsIn b) r (g .key) j ⊎ Last (recordsIn b) r (g .key) j → beyond (g .key) (recordsIn b) ≡ beyond (place (r + 1) 0) (recordsIn b)
         go (inl f) = absurd (omega (arith, f .here))
         go (inr f) = beyond-last (decode b) (wb .value) r (g .key) j (g .related) f
 
     module _ (n : 0 < j) where
-      pub in-chain : Follows (held b) r (g .key) j
+      pub in-chain : Follows (recordsIn b) r (g .key) j
       in-chain = go leads
         where
-          go : Follows (held b) r (g .key) j ⊎ Last (held b) r (g .key) j → Follows (held b) r (g .key) j
+          go : Follows (recordsIn b) r (g .key) j ⊎ Last (recordsIn b) r (g .key) j → Follows (recordsIn b) r (g .key) j
           go (inl f) = f
           go (inr f) = absurd (omega (arith, f .none))
 
       pub of-relation : relationAt b j ≡ r
       of-relation = relation-is b wb j (in-chain .here) (in-chain .within) ∙ in-chain .related
 
-      of-label : labelAt b j ≡ label (nth (held b) j)
+      of-label : labelAt b j ≡ label (nth (recordsIn b) j)
       of-label = label-is b wb j (in-chain .here) (in-chain .within)
 
-      of-key : place r (labelAt b j) ≡ nth (held b) j .key
+      of-key : place r (labelAt b j) ≡ nth (recordsIn b) j .key
       of-key = omega (arith, of-label, in-chain .related)
 
-      pub going-linked : Linked (held t) r (labelAt b j) a
-      going-linked = linked-more (held t) r (g .key % labelSpan) (labelAt b j) a (omega (arith, of-label, in-chain .related, in-chain .above, g .related)) (g .linked)
+      pub going-linked : Linked (recordsIn t) r (labelAt b j) a
+      going-linked = linked-more (recordsIn t) r (g .key % labelSpan) (labelAt b j) a (omega (arith, of-label, in-chain .related, in-chain .above, g .related)) (g .linked)
 
       pub going-seek : Seekable t (labelAt b j) a
       going-seek = record { whole = wt; relation = r; least = r₁; most = r₂; linked = going-linked }
 
-      pub going-rest : beyond (g .key) (held b) ≡ nth (held b) j ∷ beyond (nth (held b) j .key) (held b)
+      pub going-rest : beyond (g .key) (recordsIn b) ≡ nth (recordsIn b) j ∷ beyond (nth (recordsIn b) j .key) (recordsIn b)
       going-rest = beyond-next (decode b) (wb .value) r (g .key) j (g .related) in-chain
 
-      pub going-on : (t' : List ℕ) (j' a' : ℕ) → Linked (held t') r (labelAt b j) a' → j' ≡ nextAt b j → Going t' b r j' a'
+      pub going-on : (t' : List ℕ) (j' a' : ℕ) → Linked (recordsIn t') r (labelAt b j) a' → j' ≡ nextAt b j → Going t' b r j' a'
       going-on t' j' a' l e =
           record {
-            key = nth (held b) j .key;
+            key = nth (recordsIn b) j .key;
             related = in-chain .related;
-            index = e ∙ next-is b wb j (in-chain .here) (in-chain .within) ∙ ap (λ (q : ℕ). follower (held b) q (nth (held b) j .key)) (in-chain .related);
-            linked = subst (λ (q : ℕ). Linked (held t') r q a') of-label l;
+            index = e ∙ next-is b wb j (in-chain .here) (in-chain .within) ∙ ap (λ (q : ℕ). follower (recordsIn b) q (nth (recordsIn b) j .key)) (in-chain .related);
+            linked = subst (λ (q : ℕ). Linked (recordsIn t') r q a') of-label l;
           }
 
-      pub going-less : (j' : ℕ) → j' ≡ nextAt b j → ahead (held b) j' < ahead (held b) j
+      pub going-less : (j' : ℕ) → j' ≡ nextAt b j → ahead (recordsIn b) j' < ahead (recordsIn b) j
       going-less j' e = rw e (ahead-less b wb j (in-chain .here) (in-chain .within))
 
-      pub going-met : (a' : ℕ) → Sought t r (labelAt b j) a' → has (held t) (nth (held b) j .key) ≡ meets t a' (labelAt b j)
+      pub going-met : (a' : ℕ) → Sought t r (labelAt b j) a' → has (recordsIn t) (nth (recordsIn b) j .key) ≡ meets t a' (labelAt b j)
       going-met a' s =
           let x = wb .value .sound j (in-chain .here) (in-chain .within) in
           rw of-key at (met t wt r (labelAt b j) r₁ r₂ a' s (rw of-label (x .labelled)) (omega (arith, of-label)))
@@ -129,64 +129,64 @@ module _ (t₀ b : List ℕ) (r : ℕ) (c : Chained t₀ b r) where
   along-start j a e d = record { whole = c .own; kept = refl; going = going-start t₀ b (c .own) (c .other) r (c .least) (c .most) j a e d; same = refl }
 
   module _ (t : List ℕ) (j a : ℕ) (g : Along t₀ t b r j a) where
-    pub along-end : j ≡ 0 → Taken t₀ t (held b) (place r 0) (place (r + 1) 0)
+    pub along-end : j ≡ 0 → Taken t₀ t (recordsIn b) (place r 0) (place (r + 1) 0)
     along-end e = record { whole = g .whole; kept = g .kept; same = rw (going-end t b (g .whole) (c .other) r (c .least) (c .most) j a (g .going) e) at (g .same) }
 
     module _ (n : 0 < j) where
       pub along-seek : Seekable t (labelAt b j) a
       along-seek = going-seek t b (g .whole) (c .other) r (c .least) (c .most) j a (g .going) n
 
-      rest : beyond (g .going .key) (held b) ≡ nth (held b) j ∷ beyond (nth (held b) j .key) (held b)
+      rest : beyond (g .going .key) (recordsIn b) ≡ nth (recordsIn b) j ∷ beyond (nth (recordsIn b) j .key) (recordsIn b)
       rest = going-rest t b (g .whole) (c .other) r (c .least) (c .most) j a (g .going) n
 
-      rising : Rising 0 (nth (held b) j ∷ beyond (nth (held b) j .key) (held b))
-      rising = (omega arith, beyond-rising (nth (held b) j .key) (held b))
+      rising : Rising 0 (nth (recordsIn b) j ∷ beyond (nth (recordsIn b) j .key) (recordsIn b))
+      rising = (omega arith, beyond-rising (nth (recordsIn b) j .key) (recordsIn b))
 
-      same-rest : mergedRecords (held t) (nth (held b) j ∷ beyond (nth (held b) j .key) (held b)) ≡ mergedRecords (held t₀) (beyond (place r 0) (held b))
-      same-rest = ap (λ (l : List Rec). mergedRecords (held t) l) (sym rest) ∙ g .same
+      same-rest : mergedRecords (recordsIn t) (nth (recordsIn b) j ∷ beyond (nth (recordsIn b) j .key) (recordsIn b)) ≡ mergedRecords (recordsIn t₀) (beyond (place r 0) (recordsIn b))
+      same-rest = ap (λ (l : List Rec). mergedRecords (recordsIn t) l) (sym rest) ∙ g .same
 
       pub along-take : (a' : ℕ) → Sought t r (labelAt b j) a' → Takeable t b j a'
       along-take a' s =
           let f = in-chain t b (g .whole) (c .other) r (c .least) (c .most) j a (g .going) n in
           let e : decode t .capacity ≡ decode t₀ .capacity = ap (λ (v : Table). v .capacity) (g .kept) in
-          let m : length (mergedRecords (held t) (nth (held b) j ∷ beyond (nth (held b) j .key) (held b))) ≤ decode t .capacity = omega (arith, ap length same-rest, c .room) in
+          let m : length (mergedRecords (recordsIn t) (nth (recordsIn b) j ∷ beyond (nth (recordsIn b) j .key) (recordsIn b))) ≤ decode t .capacity = omega (arith, ap length same-rest, c .room) in
           record {
             own = g .whole;
             other = c .other;
             least = f .here;
             most = f .within;
             sought = rw (of-relation t b (g .whole) (c .other) r (c .least) (c .most) j a (g .going) n) s;
-            room = λ h. omega (arith, merged-more (held t) (nth (held b) j) (beyond (nth (held b) j .key) (held b)) rising h);
+            room = λ h. omega (arith, merged-more (recordsIn t) (nth (recordsIn b) j) (beyond (nth (recordsIn b) j .key) (recordsIn b)) rising h);
           }
 
-      pub along-on : (a' : ℕ) (s : Sought t r (labelAt b j) a') (t' : List ℕ) (j' : ℕ) → t' ≡ encode (withRecords (decode t) (absorb (held t) (nth (held b) j))) → j' ≡ nextAt b j → Along t₀ t' b r j' a'
+      pub along-on : (a' : ℕ) (s : Sought t r (labelAt b j) a') (t' : List ℕ) (j' : ℕ) → t' ≡ encode (withRecords (decode t) (absorb (recordsIn t) (nth (recordsIn b) j))) → j' ≡ nextAt b j → Along t₀ t' b r j' a'
       unfolding going-on
       along-on a' s t' j' e d =
-          let x = nth (held b) j in
+          let x = nth (recordsIn b) j in
           let u = along-take a' s in
-          let w' : SoundTable (withRecords (decode t) (absorb (held t) x)) = absorb-sound t b j a' u in
-          let dc : decode t' ≡ withRecords (decode t) (absorb (held t) x) = ap decode e ∙ encode-decode (withRecords (decode t) (absorb (held t) x)) w' in
-          let hd : held t' ≡ absorb (held t) x = ap (λ (v : Table). v .records) dc in
+          let w' : SoundTable (withRecords (decode t) (absorb (recordsIn t) x)) = absorb-sound t b j a' u in
+          let dc : decode t' ≡ withRecords (decode t) (absorb (recordsIn t) x) = ap decode e ∙ encode-decode (withRecords (decode t) (absorb (recordsIn t) x)) w' in
+          let hd : recordsIn t' ≡ absorb (recordsIn t) x = ap (λ (v : Table). v .records) dc in
           record {
-            whole = subst (λ (l : List ℕ). Whole l) (sym e) (whole-encode (withRecords (decode t) (absorb (held t) x)) w');
-            kept = dc ∙ ap (λ (v : Table). withRecords v (absorb (held t) x)) (g .kept) ∙ ap (λ (l : List Rec). withRecords (decode t₀) l) (sym hd);
+            whole = subst (λ (l : List ℕ). Whole l) (sym e) (whole-encode (withRecords (decode t) (absorb (recordsIn t) x)) w');
+            kept = dc ∙ ap (λ (v : Table). withRecords v (absorb (recordsIn t) x)) (g .kept) ∙ ap (λ (l : List Rec). withRecords (decode t₀) l) (sym hd);
             going =
                 going-on t b (g .whole) (c .other) r (c .least) (c .most) j a (g .going) n t' j' a'
-                (subst (λ (l : List Rec). Linked l r (labelAt b j) a') (sym hd) (absorb-linked (held t) x r (labelAt b j) a' (s .linked))) d;
+                (subst (λ (l : List Rec). Linked l r (labelAt b j) a') (sym hd) (absorb-linked (recordsIn t) x r (labelAt b j) a' (s .linked))) d;
             same =
-                ap (λ (l : List Rec). mergedRecords l (beyond (x .key) (held b))) hd
-                ∙ step (held t) x (beyond (x .key) (held b)) (distinct-true (held t) (g .whole .value .single)) (c .other .value .sound j (u .least) (u .most) .wide) rising ∙ same-rest;
+                ap (λ (l : List Rec). mergedRecords l (beyond (x .key) (recordsIn b))) hd
+                ∙ step (recordsIn t) x (beyond (x .key) (recordsIn b)) (distinct-true (recordsIn t) (g .whole .value .single)) (c .other .value .sound j (u .least) (u .most) .wide) rising ∙ same-rest;
           }
 
-      pub along-less : (j' : ℕ) → j' ≡ nextAt b j → ahead (held b) j' < ahead (held b) j
+      pub along-less : (j' : ℕ) → j' ≡ nextAt b j → ahead (recordsIn b) j' < ahead (recordsIn b) j
       along-less j' e = going-less t b (g .whole) (c .other) r (c .least) (c .most) j a (g .going) n j' e
 
 -- All chains.
-pub taken-none : (t b : List ℕ) (k : ℕ) → Whole t → Taken t t (held b) k k
+pub taken-none : (t b : List ℕ) (k : ℕ) → Whole t → Taken t t (recordsIn b) k k
 taken-none t b k w = record { whole = w; kept = refl; same = refl }
 
 pub taken-more : (t₀ t t' : List ℕ) (o : List Rec) (k m n : ℕ) → Taken t₀ t o k m → Taken t t' o m n → Taken t₀ t' o k n
-taken-more t₀ t t' o k m n a b = record { whole = b .whole; kept = b .kept ∙ ap (λ (v : Table). withRecords v (held t')) (a .kept); same = b .same ∙ a .same }
+taken-more t₀ t t' o k m n a b = record { whole = b .whole; kept = b .kept ∙ ap (λ (v : Table). withRecords v (recordsIn t')) (a .kept); same = b .same ∙ a .same }
 
 map-none : (s : List Rec) → map (joinedWith []) s ≡ s
 unfolding joinedWith at
@@ -207,18 +207,18 @@ unfolding mergedRecords
 merged-order s o = rw (map-order o s, order-rising-same (inOrder o) (order-rising o))
 
 module _ (t₀ b : List ℕ) (m : Mergeable t₀ b) where
-  first-rest : mergedRecords (held t₀) (beyond (place 1 0) (held b)) ≡ mergedRecords (held t₀) (held b)
-  first-rest = ap (λ (l : List Rec). mergedRecords (held t₀) l) (beyond-all (decode b) (m .other .value)) ∙ merged-order (held t₀) (held b)
+  first-rest : mergedRecords (recordsIn t₀) (beyond (place 1 0) (recordsIn b)) ≡ mergedRecords (recordsIn t₀) (recordsIn b)
+  first-rest = ap (λ (l : List Rec). mergedRecords (recordsIn t₀) l) (beyond-all (decode b) (m .other .value)) ∙ merged-order (recordsIn t₀) (recordsIn b)
 
-  pub chained : (t : List ℕ) (r : ℕ) → 1 ≤ r → r ≤ mostRelations → Taken t₀ t (held b) (place 1 0) (place r 0) → Chained t b r
+  pub chained : (t : List ℕ) (r : ℕ) → 1 ≤ r → r ≤ mostRelations → Taken t₀ t (recordsIn b) (place 1 0) (place r 0) → Chained t b r
   chained t r r₁ r₂ k =
       let e : decode t .capacity ≡ decode t₀ .capacity = ap (λ (v : Table). v .capacity) (k .kept) in
       record { own = k .whole; other = m .other; least = r₁; most = r₂; room = omega (arith, ap length (k .same ∙ first-rest), m .room) }
 
-  pub taken-all : (t : List ℕ) → Taken t₀ t (held b) (place 1 0) (place (mostRelations + 1) 0) → t ≡ encode (withRecords (decode t₀) (mergedRecords (held t₀) (held b)))
+  pub taken-all : (t : List ℕ) → Taken t₀ t (recordsIn b) (place 1 0) (place (mostRelations + 1) 0) → t ≡ encode (withRecords (decode t₀) (mergedRecords (recordsIn t₀) (recordsIn b)))
   taken-all t k =
-      let e : held t ≡ mergedRecords (held t₀) (held b) =
-      sym (merged-none (held t)) ∙ ap (λ (l : List Rec). mergedRecords (held t) l) (sym (beyond-none (decode b) (m .other .value))) ∙ k .same ∙ first-rest in
+      let e : recordsIn t ≡ mergedRecords (recordsIn t₀) (recordsIn b) =
+      sym (merged-none (recordsIn t)) ∙ ap (λ (l : List Rec). mergedRecords (recordsIn t) l) (sym (beyond-none (decode b) (m .other .value))) ∙ k .same ∙ first-rest in
       sym (k .whole .words) ∙ ap encode (k .kept ∙ ap (λ (l : List Rec). withRecords (decode t₀) l) e)
 
 -- Counting.
@@ -231,13 +231,13 @@ unfolding missing beyond
 missing-within s o k d =
     omega (arith, only-length (new s) (only (λ (x : Rec). ltb k (x .key)) (inOrder o)), only-length (λ (x : Rec). ltb k (x .key)) (inOrder o), order-length o (distinct-true o d))
 
-pub missing-none : (s : List Rec) (b : List ℕ) → Whole b → missing s (place (mostRelations + 1) 0) (held b) ≡ 0
+pub missing-none : (s : List Rec) (b : List ℕ) → Whole b → missing s (place (mostRelations + 1) 0) (recordsIn b) ≡ 0
 unfolding missing only
 missing-none s b wb = rw (beyond-none (decode b) (wb .value))
 
-pub merged-missing : (s : List Rec) (b : List ℕ) → Whole b → length (mergedRecords s (held b)) ≡ length s + missing s (place 1 0) (held b)
+pub merged-missing : (s : List Rec) (b : List ℕ) → Whole b → length (mergedRecords s (recordsIn b)) ≡ length s + missing s (place 1 0) (recordsIn b)
 unfolding missing
-merged-missing s b wb = rw (beyond-all (decode b) (wb .value)) (merged-count s (held b))
+merged-missing s b wb = rw (beyond-all (decode b) (wb .value)) (merged-count s (recordsIn b))
 
 module _ (t b : List ℕ) (wt : Whole t) (wb : Whole b) (r : ℕ) (r₁ : 1 ≤ r) (r₂ : r ≤ mostRelations) where
   pub count-start : (j a : ℕ) → j ≡ firstAt b r → a ≡ firstWords + (r - 1) → Counting t b r j a 0
@@ -245,31 +245,31 @@ module _ (t b : List ℕ) (wt : Whole t) (wb : Whole b) (r : ℕ) (r₁ : 1 ≤ 
   count-start j a e d = record { going = going-start t b wt wb r r₁ r₂ j a e d; same = omega arith }
 
   module _ (j a n : ℕ) (g : Counting t b r j a n) where
-    pub count-end : j ≡ 0 → n + missing (held t) (place (r + 1) 0) (held b) ≡ missing (held t) (place r 0) (held b)
+    pub count-end : j ≡ 0 → n + missing (recordsIn t) (place (r + 1) 0) (recordsIn b) ≡ missing (recordsIn t) (place r 0) (recordsIn b)
     unfolding missing
     count-end e = rw (going-end t b wt wb r r₁ r₂ j a (g .going) e) at (g .same)
 
-    pub count-within : n ≤ length (held b)
-    count-within = omega (arith, g .same, missing-within (held t) (held b) (place r 0) (wb .value .single))
+    pub count-within : n ≤ length (recordsIn b)
+    count-within = omega (arith, g .same, missing-within (recordsIn t) (recordsIn b) (place r 0) (wb .value .single))
 
     module _ (p : 0 < j) where
       pub count-on : (a' j' n' : ℕ) → Sought t r (labelAt b j) a' → j' ≡ nextAt b j → n' ≡ n + cond (meets t a' (labelAt b j)) 0 1 → Counting t b r j' a' n'
       unfolding going-on missing
       count-on a' j' n' s e d =
-          let x = nth (held b) j in
+          let x = nth (recordsIn b) j in
           let h = going-met t b wt wb r r₁ r₂ j a (g .going) p a' s in
           let q = rw (going-rest t b wt wb r r₁ r₂ j a (g .going) p) at (g .same) in
-          let c : _≡_ {A = ℕ} (cond (has (held t) (x .key)) 0 1) (cond (meets t a' (labelAt b j)) 0 1) = ap (λ (u : Bool). cond {A = ℕ} u 0 1) h in
+          let c : _≡_ {A = ℕ} (cond (has (recordsIn t) (x .key)) 0 1) (cond (meets t a' (labelAt b j)) 0 1) = ap (λ (u : Bool). cond {A = ℕ} u 0 1) h in
           record {
             going = going-on t b wt wb r r₁ r₂ j a (g .going) p t j' a' (s .linked) e;
-            same = omega (arith, q, only-cons (held t) x (beyond (x .key) (held b)));
+            same = omega (arith, q, only-cons (recordsIn t) x (beyond (x .key) (recordsIn b)));
           }
 
-      pub count-linked : Linked (held t) r (labelAt b j) a
+      pub count-linked : Linked (recordsIn t) r (labelAt b j) a
       count-linked = going-linked t b wt wb r r₁ r₂ j a (g .going) p
 
       pub count-seek : Seekable t (labelAt b j) a
       count-seek = going-seek t b wt wb r r₁ r₂ j a (g .going) p
 
-      pub count-less : (j' : ℕ) → j' ≡ nextAt b j → ahead (held b) j' < ahead (held b) j
+      pub count-less : (j' : ℕ) → j' ≡ nextAt b j → ahead (recordsIn b) j' < ahead (recordsIn b) j
       count-less j' e = going-less t b wt wb r r₁ r₂ j a (g .going) p j' e

@@ -18,7 +18,7 @@ use Rattle.model.specs.Records.{Rec, labelSpan, has}
 use Rattle.model.specs.Tables.{Table, encode, follower}
 use Rattle.wellformed.proofs.Follow.{position-some}
 use Rattle.wellformed.proofs.Words.{Sized, Fits}
-use Rattle.merge_laws.specs.Absorb.{noRec, nth, withRecords, celled, Sound, SoundTable}
+use Rattle.merge_laws.specs.Absorb.{noRec, nth, withRecords, celled, SoundRecord, SoundTable}
 use Rattle.merge_laws.proofs.Spell.{Spells, encode-spells, spells-encode}
 use Rattle.merge_laws.proofs.Links.{keys, follower-keys, distinct-keys}
 
@@ -47,7 +47,7 @@ fits v w =
     }
 
 -- no key is 0
-pub sound-key : (x : Rec) → Sound x → labelSpan < x .key
+pub sound-key : (x : Rec) → SoundRecord x → labelSpan < x .key
 sound-key x w = omega (arith, w .least, w .labelled)
 
 pub no-zero : (v : Table) → SoundTable v → has (v .records) 0 ≡ false
@@ -114,7 +114,7 @@ module _ (v : Table) (w : SoundTable v) (p : ℕ) (a : 1 ≤ p) (b : p ≤ lengt
         single = distinct-keys _ _ (celled-keys (v .records) p c) ∙ w .single;
       }
     where
-      go : (i : ℕ) → 1 ≤ i → i ≤ length (v .records) → (eqb i p ≡ true) ⊎ (eqb i p ≡ false) → Sound (nth (celled (v .records) p c) i)
+      go : (i : ℕ) → 1 ≤ i → i ≤ length (v .records) → (eqb i p ≡ true) ⊎ (eqb i p ≡ false) → SoundRecord (nth (celled (v .records) p c) i)
       go i m n (inl e) =
           let q : i ≡ p = eqb-true i p e in
           let x = w .sound p a b in

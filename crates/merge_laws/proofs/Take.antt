@@ -15,7 +15,7 @@ use Rattle.model.specs.Records.{Rec, place, relation, label, labelSpan, has, di
 use Rattle.model.specs.Tables.{Table, decode, encode, recordOf}
 use Rattle.wellformed.proofs.Follow.{position-some, position-at, Placed}
 use Rattle.wellformed.proofs.Words.{enc-used}
-use Rattle.merge_laws.specs.Absorb.{nth, held, withRecords, blank, spaced, joinedAt, absorb, Sound, SoundTable, Whole, Linked, first, next, meets, Open, Takeable, added, recordJoined}
+use Rattle.merge_laws.specs.Absorb.{nth, recordsIn, withRecords, blank, spaced, joinedAt, absorb, SoundRecord, SoundTable, Whole, Linked, first, next, meets, Open, Takeable, added, recordJoined}
 use Rattle.merge_laws.proofs.Links.{more-length, more-old, more-new}
 use Rattle.merge_laws.proofs.Frames.{celled-sound, celled-key, celled-length}
 use Rattle.merge_laws.proofs.Added.{blank-key, more-sound}
@@ -54,25 +54,25 @@ last-position s k d =
     rw e at (position-at (length s + 1) (s ++ (blank k ∷ [])) d (omega arith) (omega arith))
 
 module _ (t : List ℕ) (r l a : ℕ) (q : Open t r l a) where
-  pub spaced-sound : SoundTable (withRecords (decode t) (spaced (held t) (place r l)))
-  spaced-sound = go (test (has (held t) (place r l)))
+  pub spaced-sound : SoundTable (withRecords (decode t) (spaced (recordsIn t) (place r l)))
+  spaced-sound = go (test (has (recordsIn t) (place r l)))
     where
-      go : (has (held t) (place r l) ≡ true) ⊎ (has (held t) (place r l) ≡ false) → SoundTable (withRecords (decode t) (spaced (held t) (place r l)))
-      go (inl h) = rw (spaced-yes (held t) (place r l) h) (q .whole .value)
-      go (inr h) = rw (spaced-no (held t) (place r l) h) (more-sound (decode t) (q .whole .value) r l (q .least) (q .most) (q .labelled) (q .below) h (q .room h))
+      go : (has (recordsIn t) (place r l) ≡ true) ⊎ (has (recordsIn t) (place r l) ≡ false) → SoundTable (withRecords (decode t) (spaced (recordsIn t) (place r l)))
+      go (inl h) = rw (spaced-yes (recordsIn t) (place r l) h) (q .whole .value)
+      go (inr h) = rw (spaced-no (recordsIn t) (place r l) h) (more-sound (decode t) (q .whole .value) r l (q .least) (q .most) (q .labelled) (q .below) h (q .room h))
 
-  pub space-here : meets t a l ≡ true → (t ≡ encode (withRecords (decode t) (spaced (held t) (place r l)))) × (word t a ≡ position (place r l) (spaced (held t) (place r l)))
+  pub space-here : meets t a l ≡ true → (t ≡ encode (withRecords (decode t) (spaced (recordsIn t) (place r l)))) × (word t a ≡ position (place r l) (spaced (recordsIn t) (place r l)))
   space-here h =
       let f = found t (q .whole) r l (q .least) (q .most) a (q .sought) (q .labelled) (q .below) h in
-      rw (spaced-yes (held t) (place r l) (f .0)) (sym (q .whole .words), sym (f .1))
+      rw (spaced-yes (recordsIn t) (place r l) (f .0)) (sym (q .whole .words), sym (f .1))
 
-  pub space-new : meets t a l ≡ false → (t' : List ℕ) → t' ≡ added t a r l → (t' ≡ encode (withRecords (decode t) (spaced (held t) (place r l)))) × (usedAt t' ≡ position (place r l) (spaced (held t) (place r l)))
+  pub space-new : meets t a l ≡ false → (t' : List ℕ) → t' ≡ added t a r l → (t' ≡ encode (withRecords (decode t) (spaced (recordsIn t) (place r l)))) × (usedAt t' ≡ position (place r l) (spaced (recordsIn t) (place r l)))
   space-new h t' e =
       let n = not-found t (q .whole) r l (q .least) (q .most) a (q .sought) (q .labelled) (q .below) h in
-      let w : SoundTable (withRecords (decode t) (held t ++ (blank (place r l) ∷ []))) = more-sound (decode t) (q .whole .value) r l (q .least) (q .most) (q .labelled) (q .below) n (q .room n) in
-      let d : t' ≡ encode (withRecords (decode t) (held t ++ (blank (place r l) ∷ []))) = e ∙ added-there t (q .whole) r l (q .least) (q .most) a (q .sought) (q .labelled) (q .below) h (q .room n) in
-      let u = more-length (held t) (blank (place r l)) in
-      rw (spaced-no (held t) (place r l) n) (d, ap usedAt d ∙ enc-used (withRecords (decode t) (held t ++ (blank (place r l) ∷ []))) ∙ u ∙ sym (last-position (held t) (place r l) (w .single)))
+      let w : SoundTable (withRecords (decode t) (recordsIn t ++ (blank (place r l) ∷ []))) = more-sound (decode t) (q .whole .value) r l (q .least) (q .most) (q .labelled) (q .below) n (q .room n) in
+      let d : t' ≡ encode (withRecords (decode t) (recordsIn t ++ (blank (place r l) ∷ []))) = e ∙ added-there t (q .whole) r l (q .least) (q .most) a (q .sought) (q .labelled) (q .below) h (q .room n) in
+      let u = more-length (recordsIn t) (blank (place r l)) in
+      rw (spaced-no (recordsIn t) (place r l) n) (d, ap usedAt d ∙ enc-used (withRecords (decode t) (recordsIn t ++ (blank (place r l) ∷ []))) ∙ u ∙ sym (last-position (recordsIn t) (place r l) (w .single)))
 
 -- Record y taken in keeps the keys and the places of the others.
 module _ (s : List Rec) (y : Rec) where
@@ -97,16 +97,16 @@ linked-more s r l m _ h first = first
 linked-more s r l m _ h (next p a b e c) = next p a b e (omega arith)
 
 module _ (t b : List ℕ) (j a : ℕ) (q : Takeable t b j a) where
-  y-sound : Sound (nth (held b) j)
+  y-sound : SoundRecord (nth (recordsIn b) j)
   y-sound = q .other .value .sound j (q .least) (q .most)
 
-  same-relation : relationAt b j ≡ relation (nth (held b) j)
+  same-relation : relationAt b j ≡ relation (nth (recordsIn b) j)
   same-relation = relation-is b (q .other) j (q .least) (q .most)
 
-  same-label : labelAt b j ≡ label (nth (held b) j)
+  same-label : labelAt b j ≡ label (nth (recordsIn b) j)
   same-label = label-is b (q .other) j (q .least) (q .most)
 
-  pub same-key : place (relationAt b j) (labelAt b j) ≡ nth (held b) j .key
+  pub same-key : place (relationAt b j) (labelAt b j) ≡ nth (recordsIn b) j .key
   same-key = omega (arith, same-relation, same-label)
 
   pub take-open : Open t (relationAt b j) (labelAt b j) a
@@ -122,16 +122,16 @@ module _ (t b : List ℕ) (j a : ℕ) (q : Takeable t b j a) where
       }
 
   abbrev s₁ : List Rec
-  s₁ = spaced (held t) (place (relationAt b j) (labelAt b j))
+  s₁ = spaced (recordsIn t) (place (relationAt b j) (labelAt b j))
 
   abbrev p₁ : ℕ
-  p₁ = position (place (relationAt b j) (labelAt b j)) (spaced (held t) (place (relationAt b j) (labelAt b j)))
+  p₁ = position (place (relationAt b j) (labelAt b j)) (spaced (recordsIn t) (place (relationAt b j) (labelAt b j)))
 
-  sound₁ : SoundTable (withRecords (decode t) (spaced (held t) (place (relationAt b j) (labelAt b j))))
+  sound₁ : SoundTable (withRecords (decode t) (spaced (recordsIn t) (place (relationAt b j) (labelAt b j))))
   sound₁ = spaced-sound t (relationAt b j) (labelAt b j) a take-open
 
-  placed : Placed (place (relationAt b j) (labelAt b j)) (spaced (held t) (place (relationAt b j) (labelAt b j)))
-  placed = position-some (place (relationAt b j) (labelAt b j)) s₁ (spaced-has (held t) (place (relationAt b j) (labelAt b j)))
+  placed : Placed (place (relationAt b j) (labelAt b j)) (spaced (recordsIn t) (place (relationAt b j) (labelAt b j)))
+  placed = position-some (place (relationAt b j) (labelAt b j)) s₁ (spaced-has (recordsIn t) (place (relationAt b j) (labelAt b j)))
 
   joined-flag : recordOf b j .cell .flag ≤ largestFlag
   joined-flag = rw (record-is b (q .other) j (q .least) (q .most)) (y-sound .flagged)
@@ -144,8 +144,8 @@ module _ (t b : List ℕ) (j a : ℕ) (q : Takeable t b j a) where
       let x = q .other .value in
       let o = whole-encode (withRecords (decode t) s₁) sound₁ in
       let c = encode-decode (withRecords (decode t) s₁) sound₁ in
-      let z : length (held t₁) ≡ length s₁ = ap (λ (u : List ℕ). length (held u)) e ∙ ap (λ (u : Table). length (u .records)) c in
-      let n : i ≤ length (held t₁) = omega (arith, placed .within) in
+      let z : length (recordsIn t₁) ≡ length s₁ = ap (λ (u : List ℕ). length (recordsIn u)) e ∙ ap (λ (u : Table). length (u .records)) c in
+      let n : i ≤ length (recordsIn t₁) = omega (arith, placed .within) in
       let m : Whole t₁ = rw e o in (
         omega (arith, placed .from-one),
         omega (arith, placed .within, w .room, w .most),
@@ -156,17 +156,17 @@ module _ (t b : List ℕ) (j a : ℕ) (q : Takeable t b j a) where
       )
 
   pub take-done : (t₁ t₂ : List ℕ) (i : ℕ) → t₁ ≡ encode (withRecords (decode t) s₁) → i ≡ p₁ → t₂ ≡ recordJoined t₁ i b j
-      → t₂ ≡ encode (withRecords (decode t) (absorb (held t) (nth (held b) j)))
+      → t₂ ≡ encode (withRecords (decode t) (absorb (recordsIn t) (nth (recordsIn b) j)))
   take-done t₁ t₂ i e d h = h ∙ rw (e, d) (record-words p₁ (placed .from-one) b j (withRecords (decode t) s₁) sound₁ (placed .within) joined-flag ∙ rw (record-is b (q .other) j (q .least) (q .most), same-key) (unfold absorb in refl))
 
-  pub absorb-sound : SoundTable (withRecords (decode t) (absorb (held t) (nth (held b) j)))
+  pub absorb-sound : SoundTable (withRecords (decode t) (absorb (recordsIn t) (nth (recordsIn b) j)))
   unfolding absorb joinedAt joinCell
   absorb-sound =
-      let k = nth (held b) j .key in
-      let s₂ = spaced (held t) k in
-      let sound₂ : SoundTable (withRecords (decode t) (spaced (held t) (nth (held b) j .key))) = rw same-key at sound₁ in
-      let p = position-some k s₂ (spaced-has (held t) k) in
+      let k = nth (recordsIn b) j .key in
+      let s₂ = spaced (recordsIn t) k in
+      let sound₂ : SoundTable (withRecords (decode t) (spaced (recordsIn t) (nth (recordsIn b) j .key))) = rw same-key at sound₁ in
+      let p = position-some k s₂ (spaced-has (recordsIn t) k) in
       let x = sound₂ .sound (position k s₂) (p .from-one) (p .within) in
       let c = nth s₂ (position k s₂) .cell in
-      celled-sound (withRecords (decode t) s₂) sound₂ (position k s₂) (p .from-one) (p .within) (joinCell c (nth (held b) j .cell)) (omega (arith, x .flagged, y-sound .flagged))
-      (join-length (c .regs) (nth (held b) j .cell .regs) (x .wide ∙ sym (y-sound .wide)) ∙ x .wide)
+      celled-sound (withRecords (decode t) s₂) sound₂ (position k s₂) (p .from-one) (p .within) (joinCell c (nth (recordsIn b) j .cell)) (omega (arith, x .flagged, y-sound .flagged))
+      (join-length (c .regs) (nth (recordsIn b) j .cell .regs) (x .wide ∙ sym (y-sound .wide)) ∙ x .wide)

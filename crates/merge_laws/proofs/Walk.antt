@@ -18,7 +18,7 @@ use Rattle.model.specs.Tables.{Table, decode, encode, recordOf, follower}
 use Rattle.wellformed.proofs.Ranges.{listed-at}
 use Rattle.wellformed.proofs.Follow.{has-none, has-cases, has-record, position-at, Follows, Last, follows}
 use Rattle.wellformed.proofs.Words.{decode-fits}
-use Rattle.merge_laws.specs.Absorb.{noRec, nth, held, withRecords, blank, ahead, SoundTable, Whole, Linked, first, next, precedes, meets, Sought, added}
+use Rattle.merge_laws.specs.Absorb.{noRec, nth, recordsIn, withRecords, blank, ahead, SoundTable, Whole, Linked, first, next, precedes, meets, Sought, added}
 use Rattle.merge_laws.proofs.Spell.{Spells, encode-spells}
 use Rattle.merge_laws.proofs.Frames.{fits, no-zero}
 use Rattle.merge_laws.proofs.Added.{added-first, added-behind}
@@ -76,7 +76,7 @@ module _ (t : List ℕ) (w : Whole t) where
   spelled : Spells t (decode t)
   spelled = subst (λ (u : List ℕ). Spells u (decode t)) (w .words) (encode-spells (decode t) (fits (decode t) (w .value)))
 
-  pub used-is : usedAt t ≡ length (held t)
+  pub used-is : usedAt t ≡ length (recordsIn t)
   unfolding usedAt
   used-is = spelled .used
 
@@ -88,22 +88,22 @@ module _ (t : List ℕ) (w : Whole t) where
   unfolding decode
   capacity-is = refl
 
-  pub first-is : (r : ℕ) → 1 ≤ r → r ≤ mostRelations → firstAt t r ≡ follower (held t) r 0
+  pub first-is : (r : ℕ) → 1 ≤ r → r ≤ mostRelations → firstAt t r ≡ follower (recordsIn t) r 0
   unfolding firstAt
   first-is r a b =
       let e : firstWords + (r - 1) - (firstWords - 1) ≡ r = omega arith in
       rw e at (spelled .firsts (firstWords + (r - 1)) (omega arith) (omega arith))
 
-  module _ (i : ℕ) (a : 1 ≤ i) (b : i ≤ length (held t)) where
-    pub next-is : nextAt t i ≡ follower (held t) (relation (nth (held t) i)) (nth (held t) i .key)
+  module _ (i : ℕ) (a : 1 ≤ i) (b : i ≤ length (recordsIn t)) where
+    pub next-is : nextAt t i ≡ follower (recordsIn t) (relation (nth (recordsIn t) i)) (nth (recordsIn t) i .key)
     unfolding nextAt
     next-is = spelled .nexts i a b
 
-    pub relation-is : relationAt t i ≡ relation (nth (held t) i)
+    pub relation-is : relationAt t i ≡ relation (nth (recordsIn t) i)
     unfolding relationAt
     relation-is = spelled .relations i a b
 
-    pub label-is : labelAt t i ≡ label (nth (held t) i)
+    pub label-is : labelAt t i ≡ label (nth (recordsIn t) i)
     unfolding labelAt
     label-is = spelled .labels i a b
 
@@ -111,32 +111,32 @@ module _ (t : List ℕ) (w : Whole t) where
     unfolding flagAt
     flag-is = omega (arith, spelled .flags i a b, w .value .sound i a b .flagged)
 
-    pub record-is : recordOf t i ≡ nth (held t) i
+    pub record-is : recordOf t i ≡ nth (recordsIn t) i
     unfolding decode
     record-is = sym (listed-at (usedAt t) (recordOf t) i noRec a (omega (arith, used-is)))
 
     -- fewer records are left at the next one
-    pub ahead-less : ahead (held t) (nextAt t i) < ahead (held t) i
-    ahead-less = go (subst (λ (j : ℕ). Follows (held t) (relation (nth (held t) i)) (nth (held t) i .key) j ⊎ Last (held t) (relation (nth (held t) i)) (nth (held t) i .key) j) (sym next-is) (follows (held t) (relation (nth (held t) i)) (nth (held t) i .key) (no-zero (decode t) (w .value))))
+    pub ahead-less : ahead (recordsIn t) (nextAt t i) < ahead (recordsIn t) i
+    ahead-less = go (subst (λ (j : ℕ). Follows (recordsIn t) (relation (nth (recordsIn t) i)) (nth (recordsIn t) i .key) j ⊎ Last (recordsIn t) (relation (nth (recordsIn t) i)) (nth (recordsIn t) i .key) j) (sym next-is) (follows (recordsIn t) (relation (nth (recordsIn t) i)) (nth (recordsIn t) i .key) (no-zero (decode t) (w .value))))
       where
-        go : Follows (held t) (relation (nth (held t) i)) (nth (held t) i .key) (nextAt t i) ⊎ Last (held t) (relation (nth (held t) i)) (nth (held t) i .key) (nextAt t i) → ahead (held t) (nextAt t i) < ahead (held t) i
+        go : Follows (recordsIn t) (relation (nth (recordsIn t) i)) (nth (recordsIn t) i .key) (nextAt t i) ⊎ Last (recordsIn t) (relation (nth (recordsIn t) i)) (nth (recordsIn t) i .key) (nextAt t i) → ahead (recordsIn t) (nextAt t i) < ahead (recordsIn t) i
         go (inl f) =
             omega (
               arith,
-              ahead-some (held t) i a,
-              ahead-some (held t) (nextAt t i) (f .here),
-              above-less (nth (held t) i .key) (nth (held t) (nextAt t i) .key) (held t) (has-record (nextAt t i) (held t) (f .here) (f .within)) (f .above),
+              ahead-some (recordsIn t) i a,
+              ahead-some (recordsIn t) (nextAt t i) (f .here),
+              above-less (nth (recordsIn t) i .key) (nth (recordsIn t) (nextAt t i) .key) (recordsIn t) (has-record (nextAt t i) (recordsIn t) (f .here) (f .within)) (f .above),
             )
-        go (inr f) = omega (arith, ahead-some (held t) i a, ahead-none (held t) (nextAt t i) (f .none))
+        go (inr f) = omega (arith, ahead-some (recordsIn t) i a, ahead-none (recordsIn t) (nextAt t i) (f .none))
 
 -- What lies before a link: its key, 0 at the first, is below the place sought, and the link leads to what follows it.
 record Before (t : List ℕ) (r l a : ℕ) : Type 0 where
   key : ℕ
   below : key < place r l
-  link : word t a ≡ follower (held t) r key
+  link : word t a ≡ follower (recordsIn t) r key
 
 module _ (t : List ℕ) (w : Whole t) (r l : ℕ) (r₁ : 1 ≤ r) (r₂ : r ≤ mostRelations) where
-  before : (a : ℕ) → Linked (held t) r l a → Before t r l a
+  before : (a : ℕ) → Linked (recordsIn t) r l a → Before t r l a
   before _ first =
       record {
         key = 0;
@@ -144,29 +144,29 @@ module _ (t : List ℕ) (w : Whole t) (r l : ℕ) (r₁ : 1 ≤ r) (r₂ : r ≤
         link = first-link;
       }
     where
-      first-link : word t (firstWords + (r - 1)) ≡ follower (held t) r 0
+      first-link : word t (firstWords + (r - 1)) ≡ follower (recordsIn t) r 0
       first-link = let e : firstWords + (r - 1) - (firstWords - 1) ≡ r = omega arith in rw e at (spelled t w .firsts (firstWords + (r - 1)) (omega arith) (omega arith))
   before _ (next p x y e b) =
       record {
-        key = nth (held t) p .key;
+        key = nth (recordsIn t) p .key;
         below = omega arith;
-        link = spelled t w .nexts p x y ∙ ap (λ (q : ℕ). follower (held t) q (nth (held t) p .key)) e;
+        link = spelled t w .nexts p x y ∙ ap (λ (q : ℕ). follower (recordsIn t) q (nth (recordsIn t) p .key)) e;
       }
 
-  module _ (a : ℕ) (q : Linked (held t) r l a) where
+  module _ (a : ℕ) (q : Linked (recordsIn t) r l a) where
     -- where the link leads
-    leads-to : (b : Before t r l a) → Follows (held t) r (b .key) (word t a) ⊎ Last (held t) r (b .key) (word t a)
-    leads-to b = subst (λ (j : ℕ). Follows (held t) r (b .key) j ⊎ Last (held t) r (b .key) j) (sym (b .link)) (follows (held t) r (b .key) (no-zero (decode t) (w .value)))
+    leads-to : (b : Before t r l a) → Follows (recordsIn t) r (b .key) (word t a) ⊎ Last (recordsIn t) r (b .key) (word t a)
+    leads-to b = subst (λ (j : ℕ). Follows (recordsIn t) r (b .key) j ⊎ Last (recordsIn t) r (b .key) j) (sym (b .link)) (follows (recordsIn t) r (b .key) (no-zero (decode t) (w .value)))
 
-    pub link-within : word t a ≤ length (held t)
+    pub link-within : word t a ≤ length (recordsIn t)
     link-within = go (leads-to (before a q))
       where
-        go : Follows (held t) r (before a q .key) (word t a) ⊎ Last (held t) r (before a q .key) (word t a) → word t a ≤ length (held t)
+        go : Follows (recordsIn t) r (before a q .key) (word t a) ⊎ Last (recordsIn t) r (before a q .key) (word t a) → word t a ≤ length (recordsIn t)
         go (inl f) = f .within
         go (inr f) = omega (arith, f .none)
 
     -- a step along the chain
-    pub link-on : precedes t a l ≡ true → (1 ≤ word t a) × (word t a ≤ length (held t)) × Linked (held t) r l (base (word t a))
+    pub link-on : precedes t a l ≡ true → (1 ≤ word t a) × (word t a ≤ length (recordsIn t)) × Linked (recordsIn t) r l (base (word t a))
     unfolding precedes
     link-on h = go (leads-to (before a q))
       where
@@ -176,13 +176,13 @@ module _ (t : List ℕ) (w : Whole t) (r l : ℕ) (r₁ : 1 ≤ r) (r₂ : r ≤
         low : labelAt t (word t a) < l
         low = ltb-true (labelAt t (word t a)) l (and-right (ltb 0 (word t a)) (ltb (labelAt t (word t a)) l) h)
 
-        go : Follows (held t) r (before a q .key) (word t a) ⊎ Last (held t) r (before a q .key) (word t a) → (1 ≤ word t a) × (word t a ≤ length (held t)) × Linked (held t) r l (base (word t a))
+        go : Follows (recordsIn t) r (before a q .key) (word t a) ⊎ Last (recordsIn t) r (before a q .key) (word t a) → (1 ≤ word t a) × (word t a ≤ length (recordsIn t)) × Linked (recordsIn t) r l (base (word t a))
         go (inl f) = (f .here, f .within, next (word t a) (f .here) (f .within) (f .related) (omega (arith, low, label-is t w (word t a) (f .here) (f .within))))
         go (inr f) = absurd (omega (arith, up, f .none))
 
-  added-linked : (a : ℕ) (k : Linked (held t) r l a) → 1 ≤ l → l < labelSpan → has (held t) (place r l) ≡ false → length (held t) < decode t .capacity
-      → ((j : ℕ) → has (held t) j ≡ true → j / labelSpan ≡ r → before a k .key < j → place r l < j)
-      → added (encode (decode t)) a r l ≡ encode (withRecords (decode t) (held t ++ (blank (place r l) ∷ [])))
+  added-linked : (a : ℕ) (k : Linked (recordsIn t) r l a) → 1 ≤ l → l < labelSpan → has (recordsIn t) (place r l) ≡ false → length (recordsIn t) < decode t .capacity
+      → ((j : ℕ) → has (recordsIn t) j ≡ true → j / labelSpan ≡ r → before a k .key < j → place r l < j)
+      → added (encode (decode t)) a r l ≡ encode (withRecords (decode t) (recordsIn t ++ (blank (place r l) ∷ [])))
   unfolding before
   added-linked _ first l₁ l₂ new room g = added-first (decode t) (w .value) r l r₁ r₂ l₁ l₂ new room (λ j h e. g j h e (omega arith))
   added-linked _ (next p x y e b) l₁ l₂ new room g = added-behind (decode t) (w .value) r l r₁ r₂ l₁ l₂ new room p x y e (omega arith) g
@@ -201,15 +201,15 @@ module _ (t : List ℕ) (w : Whole t) (r l : ℕ) (r₁ : 1 ≤ r) (r₂ : r ≤
         go (inr e) = ltb-false (labelAt t (word t a)) l e
 
     -- no record of the relation lies between
-    gap : (j : ℕ) → has (held t) j ≡ true → j / labelSpan ≡ r → stop .key < j → place r l ≤ j
+    gap : (j : ℕ) → has (recordsIn t) j ≡ true → j / labelSpan ≡ r → stop .key < j → place r l ≤ j
     gap j h e b = go (leads-to a (q .linked) stop)
       where
-        go : Follows (held t) r (stop .key) (word t a) ⊎ Last (held t) r (stop .key) (word t a) → place r l ≤ j
+        go : Follows (recordsIn t) r (stop .key) (word t a) ⊎ Last (recordsIn t) r (stop .key) (word t a) → place r l ≤ j
         go (inl f) = omega (arith, f .least j h e b, f .related, stop-high (f .here), label-is t w (word t a) (f .here) (f .within))
         go (inr f) = absurd (omega (arith, f .least j h e))
 
     -- the record there has the label sought
-    pub found : meets t a l ≡ true → (has (held t) (place r l) ≡ true) × (position (place r l) (held t) ≡ word t a)
+    pub found : meets t a l ≡ true → (has (recordsIn t) (place r l) ≡ true) × (position (place r l) (recordsIn t) ≡ word t a)
     unfolding meets
     found h = go (leads-to a (q .linked) stop)
       where
@@ -219,18 +219,18 @@ module _ (t : List ℕ) (w : Whole t) (r l : ℕ) (r₁ : 1 ≤ r) (r₂ : r ≤
         here : labelAt t (word t a) ≡ l
         here = eqb-true (labelAt t (word t a)) l (and-right (ltb 0 (word t a)) (eqb (labelAt t (word t a)) l) h)
 
-        go : Follows (held t) r (stop .key) (word t a) ⊎ Last (held t) r (stop .key) (word t a) → (has (held t) (place r l) ≡ true) × (position (place r l) (held t) ≡ word t a)
+        go : Follows (recordsIn t) r (stop .key) (word t a) ⊎ Last (recordsIn t) r (stop .key) (word t a) → (has (recordsIn t) (place r l) ≡ true) × (position (place r l) (recordsIn t) ≡ word t a)
         go (inl f) =
-            let e : nth (held t) (word t a) .key ≡ place r l = omega (arith, f .related, here, label-is t w (word t a) (f .here) (f .within)) in
-            (rw e at (has-record (word t a) (held t) (f .here) (f .within)), rw e at (position-at (word t a) (held t) (w .value .single) (f .here) (f .within)))
+            let e : nth (recordsIn t) (word t a) .key ≡ place r l = omega (arith, f .related, here, label-is t w (word t a) (f .here) (f .within)) in
+            (rw e at (has-record (word t a) (recordsIn t) (f .here) (f .within)), rw e at (position-at (word t a) (recordsIn t) (w .value .single) (f .here) (f .within)))
         go (inr f) = absurd (omega (arith, up, f .none))
 
     -- or none has
-    pub not-found : meets t a l ≡ false → has (held t) (place r l) ≡ false
+    pub not-found : meets t a l ≡ false → has (recordsIn t) (place r l) ≡ false
     unfolding meets
-    not-found h = go (test (has (held t) (place r l))) (leads-to a (q .linked) stop)
+    not-found h = go (test (has (recordsIn t) (place r l))) (leads-to a (q .linked) stop)
       where
-        go : (has (held t) (place r l) ≡ true) ⊎ (has (held t) (place r l) ≡ false) → Follows (held t) r (stop .key) (word t a) ⊎ Last (held t) r (stop .key) (word t a) → has (held t) (place r l) ≡ false
+        go : (has (recordsIn t) (place r l) ≡ true) ⊎ (has (recordsIn t) (place r l) ≡ false) → Follows (recordsIn t) r (stop .key) (word t a) ⊎ Last (recordsIn t) r (stop .key) (word t a) → has (recordsIn t) (place r l) ≡ false
         go (inl g) (inl f) =
             let e : place r l / labelSpan ≡ r = omega arith in
             let i = f .least (place r l) g e (stop .below) in
@@ -239,19 +239,19 @@ module _ (t : List ℕ) (w : Whole t) (r l : ℕ) (r₁ : 1 ≤ r) (r₂ : r ≤
         go (inl g) (inr f) = let e : place r l / labelSpan ≡ r = omega arith in absurd (omega (arith, f .least (place r l) g e, stop .below))
         go (inr g) f = g
 
-    pub met : has (held t) (place r l) ≡ meets t a l
+    pub met : has (recordsIn t) (place r l) ≡ meets t a l
     met = go (test (meets t a l))
       where
-        go : (meets t a l ≡ true) ⊎ (meets t a l ≡ false) → has (held t) (place r l) ≡ meets t a l
+        go : (meets t a l ≡ true) ⊎ (meets t a l ≡ false) → has (recordsIn t) (place r l) ≡ meets t a l
         go (inl e) = found e .0 ∙ sym e
         go (inr e) = not-found e ∙ sym e
 
     -- A record added there.
-    pub added-there : meets t a l ≡ false → length (held t) < decode t .capacity → added t a r l ≡ encode (withRecords (decode t) (held t ++ (blank (place r l) ∷ [])))
+    pub added-there : meets t a l ≡ false → length (recordsIn t) < decode t .capacity → added t a r l ≡ encode (withRecords (decode t) (recordsIn t ++ (blank (place r l) ∷ [])))
     unfolding stop
-    added-there h room = subst (λ (u : List ℕ). added u a r l ≡ encode (withRecords (decode t) (held t ++ (blank (place r l) ∷ [])))) (w .words) (added-linked a (q .linked) l₁ l₂ (not-found h) room strict)
+    added-there h room = subst (λ (u : List ℕ). added u a r l ≡ encode (withRecords (decode t) (recordsIn t ++ (blank (place r l) ∷ [])))) (w .words) (added-linked a (q .linked) l₁ l₂ (not-found h) room strict)
       where
-        strict : (j : ℕ) → has (held t) j ≡ true → j / labelSpan ≡ r → stop .key < j → place r l < j
+        strict : (j : ℕ) → has (recordsIn t) j ≡ true → j / labelSpan ≡ r → stop .key < j → place r l < j
         strict j g e b = go (test (eqb j (place r l)))
           where
             go : (eqb j (place r l) ≡ true) ⊎ (eqb j (place r l) ≡ false) → place r l < j

@@ -19,7 +19,7 @@ use Rattle.wellformed.proofs.EncodedChains.{label-above}
 use Rattle.wellformed.proofs.Formed.{relations-within, schema-length}
 use Rattle.wellformed.proofs.Values.{formed-valid}
 use Rattle.wellformed.proofs.Encoded.{formed-encoded}
-use Rattle.merge_laws.specs.Absorb.{nth, held, SoundTable, Whole, Mergeable}
+use Rattle.merge_laws.specs.Absorb.{nth, recordsIn, SoundTable, Whole, Mergeable}
 use Rattle.merge_laws.proofs.Walk.{whole-encode}
 
 -- A valid value is sound.
@@ -49,5 +49,5 @@ formed-whole s t b l w =
 
 -- What merging needs, of two well-formed tables.
 pub formed-mergeable : (s t b : List ℕ) → broken s ≡ false → tableLength t ≡ true → wellFormed s t ≡ true → tableLength b ≡ true → wellFormed s b ≡ true
-    → length (mergedRecords (held t) (held b)) ≤ decode t .capacity → Mergeable t b
+    → length (mergedRecords (recordsIn t) (recordsIn b)) ≤ decode t .capacity → Mergeable t b
 formed-mergeable s t b nb lt wt lb wb room = record { own = formed-whole s t nb lt wt; other = formed-whole s b nb lb wb; room = room }

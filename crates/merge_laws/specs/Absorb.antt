@@ -22,8 +22,8 @@ abbrev pub nth : List Rec → ℕ → Rec
 nth s p = getD s (p - 1) noRec
 
 -- The records of a table's words, by position.
-abbrev pub held : List ℕ → List Rec
-held t = decode t .records
+abbrev pub recordsIn : List ℕ → List Rec
+recordsIn t = decode t .records
 
 abbrev pub withRecords : Table → List Rec → Table
 withRecords v s = record { capacity = v .capacity; replica = v .replica; clock = v .clock; records = s }
@@ -64,7 +64,7 @@ unfoldable pub ahead : List Rec → ℕ → ℕ
 ahead s i = cond (eqb i 0) 0 (suc (length (only (λ (x : Rec). ltb (nth s i .key) (x .key)) s)))
 
 -- What a merge needs of a record: a relation of 1 to 8, a label, a flag, a register for each field.
-pub record Sound (x : Rec) : Type 0 where
+pub record SoundRecord (x : Rec) : Type 0 where
   pub least : 1 ≤ relation x
   pub most : relation x ≤ mostRelations
   pub labelled : 1 ≤ label x
@@ -75,7 +75,7 @@ pub record Sound (x : Rec) : Type 0 where
 pub record SoundTable (v : Table) : Type 0 where
   pub room : length (v .records) ≤ v .capacity
   pub most : v .capacity ≤ mostRecords
-  pub sound : (i : ℕ) → 1 ≤ i → i ≤ length (v .records) → Sound (nth (v .records) i)
+  pub sound : (i : ℕ) → 1 ≤ i → i ≤ length (v .records) → SoundRecord (nth (v .records) i)
   pub single : distinct (v .records) ≡ true
 
 -- What a merge needs of a table's words: they are the words of their value.

@@ -19,7 +19,7 @@ use Rattle.model.specs.WellFormed.{fieldRule}
 use Rattle.wellformed.proofs.Ranges.{listed-length, listed-at}
 use Rattle.wellformed.proofs.Follow.{noRec, recordAt, has-record, position-none, position-some, position-at}
 use Rattle.wellformed.proofs.ValidParts.{ValidTable, valid-table, no-zero}
-use Rattle.wellformed.proofs.Facts.{table-sized, Sound, schema-sound, Formed, formed, Ruled, ruled, label-span}
+use Rattle.wellformed.proofs.Facts.{table-sized, SoundSchema, schema-sound, Formed, formed, Ruled, ruled, label-span}
 use Rattle.wellformed.proofs.Values.{formed-valid}
 use Rattle.references.specs.Order.{Checked, keyAt}
 
@@ -44,7 +44,7 @@ pub record Spot (t : List ℕ) (k : ℕ) : Type 0 where
   pub keyed : keyAt t at ≡ k
 
 module _ (s t : List ℕ) (c : Checked s t) where
-  sound : Sound s
+  sound : SoundSchema s
   sound = schema-sound s (c .schema)
 
   fm : Formed s t

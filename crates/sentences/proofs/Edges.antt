@@ -127,7 +127,7 @@ end-keys s t m p n g k h = up-to (λ l. beyond l)
     beyond : placeKey (decode t) p < k → ⊥
     beyond l =
         let q = least-of (placeKey (decode t) p) (marked m (decode t .records)) in
-        let o = position-some _ (decode t .records) (marked-part m (decode t .records) _ (q .held (q .some k h l))) in
+        let o = position-some _ (decode t .records) (marked-part m (decode t .records) _ (q .found (q .some k h l))) in
         let z : position (leastAbove (placeKey (decode t) p) (marked m (decode t .records))) (decode t .records) ≡ 0 = rw n at g in
         omega (arith, o .from-one, z)
 
@@ -145,12 +145,12 @@ end-past-marked s t m p e x h = let z = ended s t m p e in end-keys s t m p (z .
 -- the same over the marks made of the table: no shown record lies after the place
 pub end-past-shown : (s t : List ℕ) (p : ℕ) → walkEnded s t (marksOf s t) p ≡ true
     → (x : Rec) → x ∈ shown (schemaOf s) (inOrder (decode t .records)) → x .key ≤ placeKey (decode t) p
-end-past-shown s t p e x h = let z = ended s t (marksOf s t) p e in end-keys s t (marksOf s t) p (z .0) (z .1) (x .key) (rw marks held)
+end-past-shown s t p e x h = let z = ended s t (marksOf s t) p e in end-keys s t (marksOf s t) p (z .0) (z .1) (x .key) (rw marks there)
   where
     marks : marked (marksOf s t) (decode t .records) ≡ heldBy (shown (schemaOf s) (inOrder (decode t .records))) (decode t .records)
     marks = unfold marksOf in marked-only _ (decode t .records) _
 
-    held : has (heldBy (shown (schemaOf s) (inOrder (decode t .records))) (decode t .records)) (x .key) ≡ true
-    held =
+    there : has (heldBy (shown (schemaOf s) (inOrder (decode t .records))) (decode t .records)) (x .key) ≡ true
+    there =
         has-held _ (decode t .records) (x .key) (in-has _ x (x .key) h refl)
         (sym (has-order (decode t .records) (x .key)) ∙ in-has _ x (x .key) (shown-in (schemaOf s) _ x h) refl)

@@ -15,17 +15,8 @@ use Rattle.model.specs.Records.{Rec, has, at, Rising, Distinct}
 use Rattle.model.specs.Shown.{complete, targets, conflict, live, standing, kept, settled, shown}
 use Rattle.laws.proofs.Lists.{_∈_}
 use Rattle.laws.proofs.Shown.{has-in, in-has, settled-closed, settled-part, settled-largest, standing-in, standing-live, standing-closed, standing-least, kept-in, kept-unbeaten, kept-all}
-use Rattle.laws.proofs.Members.{at-key, rising-distinct}
+use Rattle.laws.proofs.Members.{rising-distinct, one-key}
 use Rattle.synql.specs.Synql as paper
-
--- two records of one key are one record
-same-cell : (a b : Cell) (o : Option Cell) → o ≡ some a → o ≡ some b → a ≡ b
-same-cell a b o p q = cc
-
-one-record : (c : List Rec) → Distinct c → (x y : Rec) → x ∈ c → y ∈ c → x .key ≡ y .key → x ≡ y
-one-record c d x y hx hy e =
-    let k = same-cell (x .cell) (y .cell) (at (y .key) c) (at-key c x (y .key) d hx e) (at-key c y (y .key) d hy refl) in
-    λ i. record { key = e i; cell = k i }
 
 -- The paper's tuples are the complete records c, in list order; departure: "over complete records".
 module _ (σ : List Relation) (c : List Rec) (rising : Rising 0 c) where
@@ -71,7 +62,7 @@ module _ (σ : List Relation) (c : List Rec) (rising : Rising 0 c) where
   standing-stands x m =
       let p = standing-least σ c P (λ y k l. (y, k, refl, first y k l)) (λ y z ky py kz e t. (z, kz, refl, next y z py ky kz e t)) x m in
       let s = standing-in σ c x m in
-      subst (λ (z : Rec). Stands z) (one-record c d (p .0) x (p .1) (s .0) (p .2)) (p .3)
+      subst (λ (z : Rec). Stands z) (one-key c d (p .0) x (p .1) (s .0) (p .2)) (p .3)
     where
       P : ℕ → Type 0
       P k = (y : Rec) × (y ∈ c) × (y .key ≡ k) × Stands y
@@ -80,7 +71,7 @@ module _ (σ : List Relation) (c : List Rec) (rising : Rising 0 c) where
       first y k l = unfold live in paper.unmarked y (k, and-left (complete σ y) _ l) (λ q. clash (and-right (complete σ y) _ l) q)
 
       next : (y z : Rec) → P (y .key) → y ∈ c → z ∈ c → complete σ z ≡ true → z .key ∈ targets σ isAbort y → Stands z
-      next y z p ky kz e t = paper.hop y z (subst (λ (u : Rec). Stands u) (one-record c d (p .0) y (p .1) ky (p .2)) (p .3)) t (kz, e)
+      next y z p ky kz e t = paper.hop y z (subst (λ (u : Rec). Stands u) (one-key c d (p .0) y (p .1) ky (p .2)) (p .3)) t (kz, e)
 
   pub stands-standing : {x : Rec} → Stands x → x ∈ standing σ c
   unfolding live
@@ -105,8 +96,8 @@ module _ (σ : List Relation) (c : List Rec) (rising : Rising 0 c) where
       free y m o (inl p) = absurd (k .1 y (standing-stands y m) p o)
       free y m o (inr p) = p
 
-  held : (x : Rec) → x ∈ kept σ (standing σ c) → x ∈ c
-  held x m = standing-in σ c x (kept-in σ (standing σ c) x m) .0
+  kept-member : (x : Rec) → x ∈ kept σ (standing σ c) → x ∈ c
+  kept-member x m = standing-in σ c x (kept-in σ (standing σ c) x m) .0
 
   -- step 4: none that is shown references, transitively, one that is not present
   never-lost : {x : Rec} → Lost x → x ∈ settled σ (kept σ (standing σ c)) → ⊥
@@ -115,7 +106,7 @@ module _ (σ : List Relation) (c : List Rec) (rising : Rising 0 c) where
       n (y .0) (kept-keeps (y .0) (settled-part σ (kept σ (standing σ c)) (y .0) (y .1))) (y .2)
   never-lost (paper.through x y r k l) m =
       let z = settled-closed σ (kept σ (standing σ c)) x m (y .key) r in
-      let e = one-record c d (z .0) y (held (z .0) (settled-part σ (kept σ (standing σ c)) (z .0) (z .1))) (held y (keeps-kept y k)) (z .2) in
+      let e = one-key c d (z .0) y (kept-member (z .0) (settled-part σ (kept σ (standing σ c)) (z .0) (z .1))) (kept-member y (keeps-kept y k)) (z .2) in
       never-lost l (subst (λ (u : Rec). u ∈ settled σ (kept σ (standing σ c))) e (z .1))
 
   -- the shown list is the four steps over complete records

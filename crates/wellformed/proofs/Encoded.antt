@@ -21,7 +21,7 @@ use Rattle.model.specs.WellFormed.{restZero, wellFormed}
 use Rattle.model.specs.Calls.{tableLength}
 use Rattle.wellformed.proofs.Ranges.{listed-length}
 use Rattle.wellformed.proofs.ListRanges.{map-from, span, replicate-from}
-use Rattle.wellformed.proofs.Facts.{Sized, table-sized, Sound, schema-sound, Formed, formed}
+use Rattle.wellformed.proofs.Facts.{Sized, table-sized, SoundSchema, schema-sound, Formed, formed}
 use Rattle.wellformed.proofs.Values.{relation-is, label-is}
 use Rattle.wellformed.proofs.Links.{first-link, next-link}
 
@@ -66,7 +66,7 @@ base-within : (i n c : ℕ) → 1 ≤ i → i ≤ n → n ≤ c → base i + rec
 unfolding base
 base-within i n c a b h = omega arith
 
-module _ (s t : List ℕ) (sound : Sound s) (fm : Formed s t) (sized : Sized t) where
+module _ (s t : List ℕ) (sound : SoundSchema s) (fm : Formed s t) (sized : Sized t) where
   abbrev recs : List Rec
   recs = listed (usedAt t) (recordOf t)
 

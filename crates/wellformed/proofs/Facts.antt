@@ -49,11 +49,11 @@ block-count s r h =
     let g = parts (leb 1 (fieldCount s r)) (leb (fieldCount s r) fields ∷ kinds ∷ maskRule (fieldCount s r) (maskAt s r 1) ∷ maskRule (fieldCount s r) (maskAt s r 2) ∷ eqb (maskAt s r 3) 0 ∷ []) h in
     leb-true (fieldCount s r) fields (g .1 .0)
 
-pub record Sound (s : List ℕ) : Type 0 where
+pub record SoundSchema (s : List ℕ) : Type 0 where
   pub most : relations s ≤ mostRelations
   pub counts : (r : ℕ) → 1 ≤ r → r ≤ relations s → fieldCount s r ≤ fields
 
-pub schema-sound : (s : List ℕ) → broken s ≡ false → Sound s
+pub schema-sound : (s : List ℕ) → broken s ≡ false → SoundSchema s
 unfolding broken
 schema-sound s h = record { most = leb-true (relations s) mostRelations (g .1 .0); counts = count }
   where

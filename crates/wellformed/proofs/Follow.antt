@@ -74,7 +74,7 @@ module _ (k : ℕ) (x : Rec) (xs : List Rec) where
 -- The least key above k: either no key lies above k, or it lies above k, some record has it, and no key above k is smaller.
 pub record Least (k : ℕ) (s : List Rec) : Type 0 where
   pub above : leastAbove k s ≢ 0 → k < leastAbove k s
-  pub held : leastAbove k s ≢ 0 → has s (leastAbove k s) ≡ true
+  pub found : leastAbove k s ≢ 0 → has s (leastAbove k s) ≡ true
   pub some : (j : ℕ) → has s j ≡ true → k < j → leastAbove k s ≢ 0
   pub least : (j : ℕ) → has s j ≡ true → k < j → leastAbove k s ≤ j
 
@@ -82,7 +82,7 @@ pub least-of : (k : ℕ) (s : List Rec) → Least k s
 least-of k [] =
     record {
       above = λ n. absurd (n (unfold leastAbove in refl));
-      held = λ n. absurd (n (unfold leastAbove in refl));
+      found = λ n. absurd (n (unfold leastAbove in refl));
       some = λ j h l. clash h (has-none j);
       least = λ j h l. clash h (has-none j);
     }
@@ -92,7 +92,7 @@ least-of k (x ∷ xs) = go (test (ltb k (x .key))) (test (eqb (leastAbove k xs) 
     passed e f l =
         record {
           above = rw e (l .above);
-          held = rw e (λ n. has-there x xs _ (l .held n));
+          found = rw e (λ n. has-there x xs _ (l .found n));
           some = rw e (λ j h b. some j (has-cases x xs j h) b);
           least = rw e (λ j h b. least j (has-cases x xs j h) b);
         }
@@ -109,7 +109,7 @@ least-of k (x ∷ xs) = go (test (ltb k (x .key))) (test (eqb (leastAbove k xs) 
     taken e a f =
         record {
           above = rw e (λ n. a);
-          held = rw e (λ n. has-here x xs);
+          found = rw e (λ n. has-here x xs);
           some = rw e (λ j h b. omega arith);
           least = rw e (λ j h b. least j (has-cases x xs j h) b);
         }
@@ -141,7 +141,7 @@ pub least-is : (k m : ℕ) (s : List Rec) → k < m → has s m ≡ true → ((j
 least-is k m s a h f =
     let l = least-of k s in
     let n = l .some m h a in
-    omega (arith, l .least m h a, f (leastAbove k s) (l .held n) (l .above n))
+    omega (arith, l .least m h a, f (leastAbove k s) (l .found n) (l .above n))
 
 pub least-none : (k : ℕ) (s : List Rec) → ((j : ℕ) → has s j ≡ true → j ≤ k) → leastAbove k s ≡ 0
 least-none k s f = go (test (eqb (leastAbove k s) 0))
@@ -151,7 +151,7 @@ least-none k s f = go (test (eqb (leastAbove k s) 0))
     go (inr p) =
         let n = eqb-false _ _ p in
         let l = least-of k s in
-        absurd (omega (arith, l .above n, f _ (l .held n)))
+        absurd (omega (arith, l .above n, f _ (l .found n)))
 
 -- the position of a key, by the first record
 position-here : (i k : ℕ) (x : Rec) (xs : List Rec) → k ≡ x .key → positionFrom i k (x ∷ xs) ≡ i
@@ -306,7 +306,7 @@ follows s r k z = go (test (eqb (leastAbove k (ofRelation r s)) 0)) (least-of k 
         below j (inr b) h e = ltb-false _ _ b
     go (inr p) l =
         let n = eqb-false _ _ p in
-        let m = has-only r s _ (l .held n) in
+        let m = has-only r s _ (l .found n) in
         let q = position-some (leastAbove k (ofRelation r s)) s (m .0) in
         inl (record {
           here = q .from-one;

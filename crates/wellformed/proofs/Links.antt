@@ -15,7 +15,7 @@ use Rattle.model.specs.Tables.{recordOf, decode, follower}
 use Rattle.model.specs.WellFormed.{chainOf, wellFormed}
 use Rattle.wellformed.proofs.Follow.{noRec, recordAt, position-some, follows-is, last-is}
 use Rattle.wellformed.proofs.Ranges.{listed-length, listed-at}
-use Rattle.wellformed.proofs.Facts.{Sound, schema-sound, Formed, formed}
+use Rattle.wellformed.proofs.Facts.{SoundSchema, schema-sound, Formed, formed}
 use Rattle.wellformed.proofs.Chains.{lies, Least, none, least, first-least, next-least, chain-in, on-own}
 use Rattle.wellformed.proofs.Values.{has-from, label-bounds, relation-is, records-distinct}
 
@@ -23,7 +23,7 @@ key-is : (t : List ℕ) (i : ℕ) → recordOf t i .key ≡ place (relationAt t 
 unfolding recordOf
 key-is t i = refl
 
-module _ (s t : List ℕ) (sound : Sound s) (fm : Formed s t) where
+module _ (s t : List ℕ) (sound : SoundSchema s) (fm : Formed s t) where
   abbrev recs : List Rec
   recs = listed (usedAt t) (recordOf t)
 

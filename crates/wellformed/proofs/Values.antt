@@ -23,7 +23,7 @@ use Rattle.model.specs.Valid.{validRegs, regsUnder, validRecord, valid}
 use Rattle.model.specs.Calls.{tableLength}
 use Rattle.wellformed.proofs.Ranges.{listed-length, listed-at}
 use Rattle.wellformed.proofs.ListRanges.{all-from}
-use Rattle.wellformed.proofs.Facts.{label-span, Sized, table-sized, Sound, schema-sound, Formed, formed, Ruled, ruled, counter-label, counter-field}
+use Rattle.wellformed.proofs.Facts.{label-span, Sized, table-sized, SoundSchema, schema-sound, Formed, formed, Ruled, ruled, counter-label, counter-field}
 use Rattle.wellformed.proofs.Chains.{lies, rises-one, on-own}
 
 -- relation and label come back from a key
@@ -95,7 +95,7 @@ value-passes : (σ : List Relation) (v : Table) → isReplica (v .replica) ≡ t
 unfolding valid
 value-passes σ v a b c d e f = rw (a, b, c, d, e) f
 
-module _ (s t : List ℕ) (sound : Sound s) (fm : Formed s t) where
+module _ (s t : List ℕ) (sound : SoundSchema s) (fm : Formed s t) where
   -- record i of 1 to used
   module _ (i : ℕ) (a : 1 ≤ i) (b : i ≤ usedAt t) where
     rule : Ruled s t i

@@ -3,7 +3,7 @@
 use mathlib.Core.Path.{refl}
 use native.Mathlib.Omega.{arith}
 use Rattle.merge.proofs.Forms.{count-seeks, count-turn, count-done, absent-small}
-use Rattle.merge_laws.specs.Absorb.{held, ahead}
+use Rattle.merge_laws.specs.Absorb.{recordsIn, ahead}
 use Rattle.merge_laws.proofs.Chain.{Counting, count-start, count-within, count-less}
 use borrow.Author.Needs.{needs}
 use Rattle.merge.proofs.missing_in.Statement.{statement}
@@ -13,7 +13,7 @@ abbrev Inv-loop : tie.InvT-loop
 Inv-loop own other relation link₀ j₀ count₀ link j count = Counting own other relation j link count
 
 abbrev μ-loop : tie.MeasureT-loop
-μ-loop own other relation link₀ j₀ count₀ link j count = ahead (held other) j
+μ-loop own other relation link₀ j₀ count₀ link j count = ahead (recordsIn other) j
 
 sub-link : tie.Need-sub-link Inv-loop μ-loop
 sub-link c = search needs

@@ -4,17 +4,17 @@ use Prim.Native.Nat.{ℕ, _≤_}
 use mathlib.Core.Path.{sym, _∙_}
 use native.Mathlib.Omega.{arith}
 use Rattle.model.specs.Layout.{mostRelations, word}
-use Rattle.merge_laws.specs.Absorb.{held, ahead, Linked}
+use Rattle.merge_laws.specs.Absorb.{recordsIn, ahead, Linked}
 use Rattle.merge.proofs.Forms.{seek-in, seek-less, seek-again, seek-done}
 use borrow.Author.Needs.{needs}
 use Rattle.merge.proofs.seek.Statement.{statement}
 use Rattle.merge.proofs.seek.Tie as tie
 
 abbrev Inv-loop : tie.InvT-loop
-Inv-loop own from label link₀ link = (r : ℕ) → 1 ≤ r → r ≤ mostRelations → Linked (held own) r label from → Linked (held own) r label link
+Inv-loop own from label link₀ link = (r : ℕ) → 1 ≤ r → r ≤ mostRelations → Linked (recordsIn own) r label from → Linked (recordsIn own) r label link
 
 abbrev μ-loop : tie.MeasureT-loop
-μ-loop own from label link₀ link = ahead (held own) (word own link)
+μ-loop own from label link₀ link = ahead (recordsIn own) (word own link)
 
 loop-holds : tie.Need-loop-holds Inv-loop μ-loop
 loop-holds c = λ r r₁ r₂ l. l

@@ -3,7 +3,7 @@
 use mathlib.Core.Path.{_≡_, refl, _∙_}
 use native.Mathlib.Omega.{arith}
 use lib.ListN.{length}
-use Rattle.merge_laws.specs.Absorb.{held, ahead}
+use Rattle.merge_laws.specs.Absorb.{recordsIn, ahead}
 use Rattle.merge_laws.proofs.Chain.{Along, along-start, along-less}
 use Rattle.merge.proofs.Forms.{chain-seeks, chain-takes, chain-turn, chain-done}
 use borrow.Author.Needs.{needs}
@@ -14,7 +14,7 @@ abbrev Inv-loop : tie.InvT-loop
 Inv-loop own₀ other relation link₀ j₀ own link j = (length own ≡ length own₀) × Along own₀ own other relation j link
 
 abbrev μ-loop : tie.MeasureT-loop
-μ-loop own₀ other relation link₀ j₀ own link j = ahead (held other) j
+μ-loop own₀ other relation link₀ j₀ own link j = ahead (recordsIn other) j
 
 sub-link : tie.Need-sub-link Inv-loop μ-loop
 sub-link c = omega arith

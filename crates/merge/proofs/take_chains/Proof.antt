@@ -6,7 +6,7 @@ use native.Mathlib.Omega.{arith}
 use lib.ListN.{length}
 use Rattle.model.specs.Layout.{mostRelations}
 use Rattle.model.specs.Records.{place}
-use Rattle.merge_laws.specs.Absorb.{held, Taken}
+use Rattle.merge_laws.specs.Absorb.{recordsIn, Taken}
 use Rattle.merge_laws.proofs.Chain.{taken-none, taken-more, chained}
 use Rattle.merge.proofs.Forms.{chains-all}
 use borrow.Author.Needs.{needs}
@@ -14,7 +14,7 @@ use Rattle.merge.proofs.take_chains.Statement.{statement}
 use Rattle.merge.proofs.take_chains.Tie as tie
 
 abbrev Inv-loop : tie.InvT-loop
-Inv-loop own₀ other relation₀ own relation = (length own ≡ length own₀) × (1 ≤ relation) × (relation ≤ mostRelations + 1) × Taken own₀ own (held other) (place 1 0) (place relation 0)
+Inv-loop own₀ other relation₀ own relation = (length own ≡ length own₀) × (1 ≤ relation) × (relation ≤ mostRelations + 1) × Taken own₀ own (recordsIn other) (place 1 0) (place relation 0)
 
 abbrev μ-loop : tie.MeasureT-loop
 μ-loop own₀ other relation₀ own relation = mostRelations + 1 - relation

@@ -8,7 +8,7 @@ use Rattle.model.specs.Schemas.{broken}
 use Rattle.model.specs.WellFormed.{wellFormed}
 
 -- Well-formed under a schema that is not broken.
-pub record Sound (t : List ℕ) : Type 0 where
+pub record Walkable (t : List ℕ) : Type 0 where
   pub schema : List ℕ
   pub whole : broken schema ≡ false
   pub formed : wellFormed schema t ≡ true
