@@ -138,3 +138,15 @@ pub fn next(place: &mut Place, schema: &[u64], table: &[u64], marks: &[u8]) -> W
     place.index = m.index;
     m.answer
 }
+
+// One step for a caller that holds the index alone: the place is made here, lent to `next`, and its index read back.
+pub fn next_from(schema: &[u64], table: &[u64], marks: &[u8], index: usize) -> Moved
+    ensures { λ r. ⌜ (walkTold (r .answer) ≡ toldEnded (walkNumber (now (schema .entry)) (now (table .entry)) (now (marks .entry)) index) (walkGiven (now (schema .entry)) (now (table .entry)) (now (marks .entry)) index) (walkEnded (now (schema .entry)) (now (table .entry)) (now (marks .entry)) index)) × (r .index ≡ walkPlace (now (schema .entry)) (now (table .entry)) (now (marks .entry)) index) ⌝ }
+{
+    let mut place = Place { index };
+    let answer = next(&mut place, schema, table, marks);
+    Moved {
+        answer,
+        index: place.index,
+    }
+}
