@@ -9,16 +9,11 @@ use native.Mathlib.Omega.{arith}
 use lib.Dec.{eqb, ltb}
 use borrow.Author.Tests.{ltb-true, lt-ltb, ne-eqb}
 use Rattle.crdt.proofs.Tests.{test, clash, and-left, and-right, and-both}
-use Rattle.answers.specs.Told.{Told, told}
 use Rattle.model.specs.Layout.{usedAt}
 use Rattle.model.specs.Calls.{walkGiven, Walked, walked, entryAt}
 use Rattle.list_text.specs.Text.{lineText, linesText}
 use Rattle.list_text.specs.Placed.{Placed}
 use Rattle.list_text.proofs.Laying.{Leads, leads-start, leads-on, leads-as, leads-end}
-
--- the index that a step gives
-pub given-is : (a : Told) (n g i : ℕ) → a ≡ told n g → i ≡ a .value → i ≡ g
-given-is a n g i e f = f ∙ ap (λ (x : Told). x .value) e
 
 -- a turn has lines left
 pub lines-left : (n i : ℕ) → (ltb 0 n && ltb 0 i) ≡ true → 0 < n

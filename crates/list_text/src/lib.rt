@@ -5,7 +5,7 @@ ghost use mathlib.Core.List.{[], _∷_, _++_, map};
 ghost use Prim.Native.Nat.{_+_, _≤_};
 ghost use Rattle.model.specs.Layout.{mostRecords, usedAt, fieldCount, kindAt, valueAt};
 ghost use Rattle.model.specs.Lists.{listed};
-ghost use Rattle.model.specs.Calls.{entryAt, walked};
+ghost use Rattle.model.specs.Calls.{entryAt, walkGiven, walked};
 ghost use Rattle.list_text.specs.Text.{space, dash, dot, digit, decimalText, labelText, referenceText, valueText, valuesText, lineText, linesText, toldText, refusedText, shownText};
 ghost use Rattle.list_text.specs.Placed.{Placed};
 use crdt::Label;
@@ -142,17 +142,26 @@ fn line(schema: &[u64], table: &[u64], i: usize, out: &mut [u8], at: usize) -> u
     put(out, end, NEWLINE)
 }
 
+// The index of the record that the walk gives after index `i`, 0 at the end and in a refusal.
+fn given_after(schema: &[u64], table: &[u64], marks: &[u8], i: usize) -> usize
+    ensures { λ r. ⌜ r ≡ walkGiven (now (schema .entry)) (now (table .entry)) (now (marks .entry)) i ⌝ }
+{
+    let m = list_walk::next_from(schema, table, marks, i);
+    let answer = m.answer;
+    answer.index()
+}
+
 // The lines of the records that the walk gives, in its order. A table gives no more of them than it has used records.
 fn lines(schema: &[u64], table: &[u64], marks: &[u8], out: &mut [u8], at: usize) -> usize
     requires { ⌜ usedAt (now table) ≤ mostRecords ⌝ }
     ensures { λ r. ⌜ Placed (now (out .entry)) at (linesText (now (schema .entry)) (map (entryAt (now (schema .entry)) (now (table .entry))) (walked (usedAt (now (table .entry)) + 1) (now (schema .entry)) (now (table .entry)) (now (marks .entry)) 0 .given))) r (now (out .exit)) ⌝ }
 {
     let mut left = layout::used(table) + 1;
-    let mut i = list_walk::step(schema, table, marks, 0).index();
+    let mut i = given_after(schema, table, marks, 0);
     let mut to = at;
     while (0 < left) & (0 < i) {
         to = line(schema, table, i, out, to);
-        i = list_walk::step(schema, table, marks, i).index();
+        i = given_after(schema, table, marks, i);
         left -= 1;
     }
     to

@@ -2,7 +2,7 @@
 -- Assumes nothing.
 use native.Mathlib.Omega.{arith}
 use Rattle.list_text.proofs.Laying.{Leads}
-use Rattle.list_text.proofs.Turns.{given-is, linesFrom, allLines, lines-start, lines-left, lines-on, lines-end}
+use Rattle.list_text.proofs.Turns.{linesFrom, allLines, lines-start, lines-left, lines-on, lines-end}
 use borrow.Author.Needs.{needs}
 use Rattle.list_text.proofs.lines.Statement.{statement}
 use Rattle.list_text.proofs.lines.Tie as tie
@@ -19,32 +19,26 @@ used-requires c κs = search needs
 add-left : tie.Need-add-left Inv-loop μ-loop
 add-left c = search needs
 
-step-requires : tie.Need-step-requires Inv-loop μ-loop
-step-requires c κs = search needs
-
-index-requires : tie.Need-index-requires Inv-loop μ-loop
-index-requires c κs = search needs
+given-after-requires : tie.Need-given-after-requires Inv-loop μ-loop
+given-after-requires c κs = search needs
 
 loop-holds : tie.Need-loop-holds Inv-loop μ-loop
-loop-holds c = lines-start _ _ _ _ _ _ _ (c .before .before .used .ensures) (given-is _ _ _ _ (c .before .step .ensures) (c .index .ensures))
+loop-holds c = lines-start _ _ _ _ _ _ _ (c .before .used .ensures) (c .given-after .ensures)
 
 line-requires : tie.Need-line-requires Inv-loop μ-loop
 line-requires c κs = search needs
 
-step-requires-2 : tie.Need-step-requires-2 Inv-loop μ-loop
-step-requires-2 c κs = search needs
-
-index-requires-2 : tie.Need-index-requires-2 Inv-loop μ-loop
-index-requires-2 c κs = search needs
+given-after-requires-2 : tie.Need-given-after-requires-2 Inv-loop μ-loop
+given-after-requires-2 c κs = search needs
 
 sub-left : tie.Need-sub-left Inv-loop μ-loop
-sub-left c = omega (arith, lines-left (c .before .before .before .before .before .before .before .loop .left) (c .before .before .before .before .before .before .before .loop .i) (c .before .before .before .before .before .before .loop-test .taken))
+sub-left c = omega (arith, lines-left (c .before .before .before .before .before .before .loop .left) (c .before .before .before .before .before .before .loop .i) (c .before .before .before .before .before .loop-test .taken))
 
 loop-less : tie.Need-loop-less Inv-loop μ-loop
-loop-less c = omega (arith, lines-left (c .before .before .before .before .before .before .before .loop .left) (c .before .before .before .before .before .before .before .loop .i) (c .before .before .before .before .before .before .loop-test .taken))
+loop-less c = omega (arith, lines-left (c .before .before .before .before .before .before .loop .left) (c .before .before .before .before .before .before .loop .i) (c .before .before .before .before .before .loop-test .taken))
 
 loop-again : tie.Need-loop-again Inv-loop μ-loop
-loop-again c = lines-on _ _ _ _ _ (c .before .before .before .before .before .before .loop-test .taken) _ (given-is _ _ _ _ (c .before .step2 .ensures) (c .index2 .ensures)) (c .before .before .before .before .before .before .before .loop .inv) (c .before .before .before .before .line .ensures)
+loop-again c = lines-on _ _ _ _ _ (c .before .before .before .before .before .loop-test .taken) _ (c .given-after2 .ensures) (c .before .before .before .before .before .before .loop .inv) (c .before .before .before .line .ensures)
 
 same-length : tie.Need-same-length Inv-loop μ-loop
 same-length c = c .before .loop .inv .size
@@ -60,12 +54,10 @@ lines-spec =
     μ-loop
     used-requires
     add-left
-    step-requires
-    index-requires
+    given-after-requires
     loop-holds
     line-requires
-    step-requires-2
-    index-requires-2
+    given-after-requires-2
     sub-left
     loop-less
     loop-again
