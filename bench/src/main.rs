@@ -4,23 +4,16 @@
 mod picture;
 mod tables;
 
-use herd::{raw, DELTA_WORDS, FIELDS, HEADER_WORDS, HEAD_WORDS, RECORD_WORDS};
+use herd::layout::{
+    record_word, DELTA_WORDS, FIELDS, HEAD_WORDS, LABEL_WORD, RELATION_WORD, USED_WORD,
+};
+use herd::raw;
 use second::random::Random;
 use std::hint::black_box;
 use std::time::Instant;
 use tables::Subject;
 
 const SIZES: [usize; 4] = [64, 256, 1024, 4096];
-
-/// Words of a table: how many records are used, and of a record its relation and its label.
-const USED: usize = 2;
-const RELATION: usize = 1;
-const LABEL: usize = 2;
-
-/// The first word of the record with an index.
-fn record_at(index: usize) -> usize {
-    HEADER_WORDS + RECORD_WORDS * (index - 1)
-}
 
 /// One line: a call on a subject, with nanoseconds for each size.
 pub struct Line {
@@ -222,7 +215,7 @@ fn values(subjects: &[Subject]) -> Line {
                 black_box(second::values(black_box(&x.full), black_box(index as u64)));
             }),
             quick(|| {
-                let at = record_at(black_box(index)) + HEAD_WORDS;
+                let at = record_word(black_box(index)) + HEAD_WORDS;
                 black_box(
                     x.full[at..at + FIELDS].iter().fold(0u64, |sum, word| sum.wrapping_add(*word)),
                 );
@@ -243,13 +236,15 @@ struct Change {
 fn last_shown(x: &Subject, size: usize, relation: usize) -> usize {
     let mut bytes = vec![0u8; size];
     raw::marks(&x.schema, &x.own, &mut bytes, &mut 0);
-    let of = |at: &usize| x.own[record_at(*at) + RELATION] == relation as u64 && bytes[at - 1] == 1;
-    (1..=x.own[USED] as usize).rev().find(of).unwrap_or(0)
+    let of = |at: &usize| {
+        x.own[record_word(*at) + RELATION_WORD] == relation as u64 && bytes[at - 1] == 1
+    };
+    (1..=x.own[USED_WORD] as usize).rev().find(of).unwrap_or(0)
 }
 
 /// A milking of a barn, and its grams.
 fn milking(x: &Subject, size: usize) -> Change {
-    let label = |relation| x.own[record_at(last_shown(x, size, relation)) + LABEL];
+    let label = |relation| x.own[record_word(last_shown(x, size, relation)) + LABEL_WORD];
     Change { relation: 4, values: vec![label(2), label(3), 9000, 385, 100], field: 3, value: 9100 }
 }
 
