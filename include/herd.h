@@ -18,8 +18,9 @@
  *
  * What all calls need
  *   - A slice is a pointer and then its length, in words, or in bytes for marks. The pointer is not null, also with length 0; it is
- *     aligned for its type, and the memory is that long. Any length and any contents may be lent; `Needs` below tells what a call must
- *     be lent so that it is not refused.
+ *     aligned for its type, and the memory is that long. Any length and any contents may be lent. So as not to be refused, a schema
+ *     has HERD_SCHEMA_WORDS words, a table HERD_TABLE_WORDS(N) with N from 0 to HERD_MOST_RECORDS, a delta HERD_DELTA_WORDS, and
+ *     there are N marks; `Needs` below tells what else a call must be lent.
  *   - What a call writes (a parameter without const) must overlap no other argument of the call. What is only read may overlap.
  *     To merge a table with itself, lend a copy.
  *   - Nothing else writes the memory during the call. Calls that share no written memory may run at the same time.
@@ -219,21 +220,19 @@ static inline int herd_version_fits(void)
 
 /*
  * Whether the words are a schema that is not broken.
- * Needs: schema_words HERD_SCHEMA_WORDS.
  * Answers: 0, 1, 2.
  */
 HERD_CALL uint64_t herd_schema_check(const uint64_t *schema, size_t schema_words);
 
 /*
  * Whether the words are a well-formed table under the schema.
- * Needs: schema_words HERD_SCHEMA_WORDS; table_words HERD_TABLE_WORDS(N).
  * Answers: 0, 1, 2, 3.
  */
 HERD_CALL uint64_t herd_table_check(const uint64_t *schema, size_t schema_words, const uint64_t *table, size_t table_words);
 
 /*
  * Starts a table: zeroes it and writes the replica number. Old contents are ignored.
- * Needs: table_words HERD_TABLE_WORDS(N); replica 1 to 255, another one for each table.
+ * Needs: replica 1 to 255, another one for each table.
  * Answers: 0, 1, 5.
  * Changes: table.
  */
@@ -242,55 +241,54 @@ HERD_CALL uint64_t herd_start(uint64_t *table, size_t table_words, uint64_t repl
 /*
  * Merges another table, or a delta, into the own table. Records of both are joined; others are added after the used ones.
  * The own replica number and the indices of the own records remain; the clock becomes the larger one.
- * Needs: schema_words HERD_SCHEMA_WORDS; own_words and other_words HERD_TABLE_WORDS(N), each with its own N.
+ * Needs: room for the records of both. The two tables may have different N.
  * Answers: 0, 1, 2, 3, 4, 11.
  * Changes: own.
  */
 HERD_CALL uint64_t herd_merge(const uint64_t *schema, size_t schema_words, uint64_t *own, size_t own_words, const uint64_t *other,
-                    size_t other_words);
+                              size_t other_words);
 
 /*
  * Inserts a record, at index used + 1. Its label is the clock + 1 with the own replica number; the clock rises by 1.
  * Deleted records that it references are redone.
- * Needs: schema_words HERD_SCHEMA_WORDS; own_words HERD_TABLE_WORDS(N); delta_words HERD_DELTA_WORDS; a value for each field of the relation, references to shown records.
+ * Needs: a value for each field of the relation, references to shown records.
  * Answers: 0, 1, 2, 3, 5, 7, 8, 9, 11, 12, 13.
  * Changes: own; delta, which becomes the changed records; *label, the new label, 0 in a refusal.
  */
 HERD_CALL uint64_t herd_insert(const uint64_t *schema, size_t schema_words, uint64_t *own, size_t own_words, uint64_t *delta,
-                     size_t delta_words, size_t relation, const uint64_t *values, size_t value_count, uint64_t *label);
+                               size_t delta_words, size_t relation, const uint64_t *values, size_t value_count, uint64_t *label);
 
 /*
  * Updates one field of a shown record; the clock rises by 1. A deleted new target is redone, and so is a deleted old target by abort
  * that another record still references.
- * Needs: schema_words HERD_SCHEMA_WORDS; own_words HERD_TABLE_WORDS(N); delta_words HERD_DELTA_WORDS; index 1 to used; field 1 to F of the record's relation.
+ * Needs: index 1 to used; field 1 to F of the record's relation.
  * Answers: 0, 1, 2, 3, 6, 7, 8, 9, 12, 13.
  * Changes: own; delta, which becomes the changed records.
  */
 HERD_CALL uint64_t herd_update(const uint64_t *schema, size_t schema_words, uint64_t *own, size_t own_words, uint64_t *delta,
-                     size_t delta_words, size_t index, size_t field, uint64_t value);
+                               size_t delta_words, size_t index, size_t field, uint64_t value);
 
 /*
  * Deletes a shown record: its flag is raised, and the clock stays. The record keeps its index. Its deleted targets by abort that
  * another record still references are redone.
- * Needs: schema_words HERD_SCHEMA_WORDS; own_words HERD_TABLE_WORDS(N); delta_words HERD_DELTA_WORDS; index 1 to used.
+ * Needs: index 1 to used.
  * Answers: 0, 1, 2, 3, 6, 10, 13.
  * Changes: own; delta, which becomes the changed records.
  */
 HERD_CALL uint64_t herd_delete(const uint64_t *schema, size_t schema_words, uint64_t *own, size_t own_words, uint64_t *delta,
-                     size_t delta_words, size_t index);
+                               size_t delta_words, size_t index);
 
 /*
  * Marks the shown records: byte i - 1 becomes 1 if record i is shown, and otherwise 0. Old contents are ignored.
- * Needs: schema_words HERD_SCHEMA_WORDS; table_words HERD_TABLE_WORDS(N); mark_count N.
  * Answers: 0, 1, 2, 3.
  * Changes: marks; *shown, the count of shown records, 0 in a refusal.
  */
 HERD_CALL uint64_t herd_marks(const uint64_t *schema, size_t schema_words, const uint64_t *table, size_t table_words, uint8_t *marks,
-                    size_t mark_count, uint64_t *shown);
+                              size_t mark_count, uint64_t *shown);
 
 /*
  * The next marked record after *place, by relation and then label. It checks the whole table at each call.
- * Needs: schema_words HERD_SCHEMA_WORDS; table_words HERD_TABLE_WORDS(N); mark_count N; *place 0 for the first record, then as the call before left it.
+ * Needs: *place 0 for the first record, then as the call before left it.
  * Answers: 0, 1, 2, 3. A place above used or above N gives 1.
  * Changes: *place, the index of the record given; *given, the same, 0 at the end of the list and in a refusal. The place does not
  * move there.
@@ -300,11 +298,11 @@ HERD_CALL uint64_t herd_marks(const uint64_t *schema, size_t schema_words, const
  *       ...
  */
 HERD_CALL uint64_t herd_walk(const uint64_t *schema, size_t schema_words, const uint64_t *table, size_t table_words, const uint8_t *marks,
-                   size_t mark_count, uint64_t *place, uint64_t *given);
+                             size_t mark_count, uint64_t *place, uint64_t *given);
 
 /*
- * Where the eight values of a record are: table[*first] to table[*first + 7]. Those above the relation's fields are 0.
- * Needs: table_words HERD_TABLE_WORDS(N); index 1 to used. The table is not checked otherwise.
+ * Where the values of a record are: table[*first] to table[*first + HERD_FIELDS - 1]. Those above the relation's fields are 0.
+ * Needs: index 1 to used. The table is not checked otherwise.
  * Answers: 0, 1.
  * Changes: *first, 0 in a refusal.
  */
