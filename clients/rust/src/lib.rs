@@ -60,8 +60,8 @@
 //!
 //! # Stack
 //!
-//! A call needs at most the stack that `include/herd.h` tells for it, whatever the size of the
-//! tables; where the stack is smaller, call from a thread or task that has it.
+//! A call needs up to [`STACK`] bytes, whatever the size of the tables, and `include/herd.h` tells
+//! the number of each; where the stack is smaller, call from a thread or task that has it.
 
 #![no_std]
 #![deny(unsafe_code)]
@@ -89,3 +89,6 @@ pub use list::{List, Marks, Record};
 pub use schema::{Kind, Schema, SchemaBuilder, SchemaWords};
 pub use table::{Delta, Table};
 pub use version::{version, version_fits, VERSION};
+
+/// The stack that a call of the static library needs at most, in bytes, as `tools/stack` measures it.
+pub const STACK: usize = 119296;
