@@ -124,14 +124,17 @@ typedef uint64_t herd_schema[HERD_SCHEMA_WORDS];
 /* A relation's block: its two keys, then the kind of each field that it has. More than HERD_FIELDS kinds do not compile. */
 #define HERD_RELATION(key1, key2, ...) HERD_FITTING(HERD_COUNT(__VA_ARGS__)), HERD_KINDS(__VA_ARGS__), (key1), (key2), 0
 
-/* Parts of HERD_RELATION: the count of its kinds; the same, if there is room for so many; the kinds and then zeros, HERD_FIELDS words. */
+/*
+ * Parts of HERD_RELATION: the count of its kinds, and of more than 32 a kind, which is no int; the count, if there is room for so many; the
+ * kinds and then zeros, HERD_FIELDS words.
+ */
 #define HERD_COUNT(...)                                                                                                           \
     HERD_33RD(__VA_ARGS__, 32, 31, 30, 29, 28, 27, 26, 25, 24, 23, 22, 21, 20, 19, 18, 17, 16, 15, 14, 13, 12, 11, 10, 9, 8, 7, 6, \
               5, 4, 3, 2, 1, 0)
 #define HERD_33RD(a1, a2, a3, a4, a5, a6, a7, a8, a9, a10, a11, a12, a13, a14, a15, a16, a17, a18, a19, a20, a21, a22, a23, a24, \
                   a25, a26, a27, a28, a29, a30, a31, a32, a33, ...)                                                              \
     a33
-#define HERD_FITTING(count) ((uint64_t)(count) * sizeof(char[(count) <= HERD_FIELDS ? 1 : -1]))
+#define HERD_FITTING(count) ((uint64_t)(count) * sizeof(char[(count) <= HERD_FIELDS && sizeof(count) == sizeof(int) ? 1 : -1]))
 #define HERD_KINDS(...) HERD_PASTE(HERD_FIRST_, HERD_FIELDS)(__VA_ARGS__, 0, 0, 0, 0, 0, 0, 0, 0, 0, 0, 0, 0, 0, 0, 0, 0)
 #define HERD_PASTE(left, right) HERD_PASTE_(left, right)
 #define HERD_PASTE_(left, right) left##right
