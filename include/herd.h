@@ -13,12 +13,14 @@
  * standing records reference by abort. Of standing records with the same key only the oldest is kept. The kept records whose references
  * all lead to shown records are shown. An empty reference (0) leads nowhere and is fine, but a key with one is no key.
  *
- * Link with libherd.a (rt staticlib herd; x86-64). Of the C library it needs memset and the like, and nothing else.
+ * Link with libherd.a (rt staticlib herd, or tools/install and pkg-config). Its objects are for x86-64 Linux. Of the C library it needs
+ * memset and the like, and nothing else. At start-up compare the library with this header (herd_version_fits).
  *
  * What all calls need
  *   - A slice is a pointer and then its length, in words, or in bytes for marks. The pointer is not null, also with length 0; it is
- *     aligned for its type, and the memory is that long. Any length and any contents may be lent; `Needs` below tells what a call must
- *     be lent so that it is not refused.
+ *     aligned for its type, and the memory is that long. Any length and any contents may be lent. So as not to be refused, a schema
+ *     has HERD_SCHEMA_WORDS words, a table HERD_TABLE_WORDS(N) with N from 0 to HERD_MOST_RECORDS, a delta HERD_DELTA_WORDS, and
+ *     there are N marks; `Needs` below tells what else a call must be lent.
  *   - What a call writes (a parameter without const) must overlap no other argument of the call. What is only read may overlap.
  *     To merge a table with itself, lend a copy.
  *   - Nothing else writes the memory during the call. Calls that share no written memory may run at the same time.
@@ -37,6 +39,27 @@
 #ifdef __cplusplus
 extern "C" {
 #endif
+
+/*
+ * The version of this header, as one number: 1.0.0 is 10000. A change of a parameter list, of a layout figure or of what a call answers
+ * raises the major part, an addition the minor part, anything else the patch. CHANGELOG.md tells what changed.
+ */
+#define HERD_VERSION_MAJOR 1
+#define HERD_VERSION_MINOR 0
+#define HERD_VERSION_PATCH 0
+#define HERD_VERSION (HERD_VERSION_MAJOR * 10000 + HERD_VERSION_MINOR * 100 + HERD_VERSION_PATCH)
+
+/* On a call: its answer is to be used, and none of its pointers is null. On a function: none of its pointers is null. */
+#if defined(__GNUC__) || defined(__clang__)
+#define HERD_CALL __attribute__((warn_unused_result, nonnull))
+#define HERD_NONNULL __attribute__((nonnull))
+#else
+#define HERD_CALL
+#define HERD_NONNULL
+#endif
+
+/* The calls take lengths as size_t, which has 64 bits in the library. */
+typedef char herd_size_t_has_64_bits[sizeof(size_t) == 8 ? 1 : -1];
 
 /* The answers. */
 enum herd_answer {
@@ -78,15 +101,15 @@ typedef uint64_t herd_label;
  *
  *   static const herd_schema FARM = {
  *       2,
- *       HERD_RELATION(1, HERD_PLAIN, 0, 0, 0, 0, 0, 0, 0, HERD_FIELD(1), 0),
- *       HERD_RELATION(2, HERD_PLAIN, HERD_ABORT(1), 0, 0, 0, 0, 0, 0, HERD_FIELD(1) | HERD_FIELD(2), 0),
+ *       HERD_RELATION(HERD_FIELD(1), 0, HERD_PLAIN),
+ *       HERD_RELATION(HERD_FIELD(1) | HERD_FIELD(2), 0, HERD_PLAIN, HERD_ABORT(1)),
  *   };
  */
 #define HERD_FIELDS 8
 #define HERD_MOST_RELATIONS 8
 #define HERD_MOST_KEY_FIELDS 4
-#define HERD_BLOCK_WORDS 12
-#define HERD_SCHEMA_WORDS 97
+#define HERD_BLOCK_WORDS (HERD_FIELDS + 4)
+#define HERD_SCHEMA_WORDS (1 + HERD_MOST_RELATIONS * HERD_BLOCK_WORDS)
 
 typedef uint64_t herd_schema[HERD_SCHEMA_WORDS];
 
@@ -98,20 +121,54 @@ typedef uint64_t herd_schema[HERD_SCHEMA_WORDS];
 /* A field in a key mask. A key is the sum of one to four fields; 0 is no key. */
 #define HERD_FIELD(field) (UINT64_C(1) << ((field) - 1))
 
-/* A relation's block: field count, the kinds of the fields, two keys. */
-#define HERD_RELATION(fields, k1, k2, k3, k4, k5, k6, k7, k8, key1, key2) \
-    (fields), (k1), (k2), (k3), (k4), (k5), (k6), (k7), (k8), (key1), (key2), 0
-
-/* The word at which the block of a relation begins. */
-#define HERD_BLOCK(relation) ((size_t)1 + HERD_BLOCK_WORDS * ((size_t)(relation) - 1))
+/* A relation's block: its two keys, then the kind of each field that it has. More than HERD_FIELDS kinds do not compile. */
+#define HERD_RELATION(key1, key2, ...) HERD_FITTING(HERD_COUNT(__VA_ARGS__)), HERD_KINDS(__VA_ARGS__), (key1), (key2), 0
 
 /*
- * The table: 16 + 20N words, N from 0 to 4,096. A table file or message is these words, little-endian.
+ * Parts of HERD_RELATION: the count of its kinds, and of more than 32 a kind, which is no int; the count, if there is room for so many; the
+ * kinds and then zeros, HERD_FIELDS words.
+ */
+#define HERD_COUNT(...)                                                                                                           \
+    HERD_33RD(__VA_ARGS__, 32, 31, 30, 29, 28, 27, 26, 25, 24, 23, 22, 21, 20, 19, 18, 17, 16, 15, 14, 13, 12, 11, 10, 9, 8, 7, 6, \
+              5, 4, 3, 2, 1, 0)
+#define HERD_33RD(a1, a2, a3, a4, a5, a6, a7, a8, a9, a10, a11, a12, a13, a14, a15, a16, a17, a18, a19, a20, a21, a22, a23, a24, \
+                  a25, a26, a27, a28, a29, a30, a31, a32, a33, ...)                                                              \
+    a33
+#define HERD_FITTING(count) ((uint64_t)(count) * sizeof(char[(count) <= HERD_FIELDS && sizeof(count) == sizeof(int) ? 1 : -1]))
+#define HERD_KINDS(...) HERD_PASTE(HERD_FIRST_, HERD_FIELDS)(__VA_ARGS__, 0, 0, 0, 0, 0, 0, 0, 0, 0, 0, 0, 0, 0, 0, 0, 0)
+#define HERD_PASTE(left, right) HERD_PASTE_(left, right)
+#define HERD_PASTE_(left, right) left##right
+#define HERD_FIRST_1(kind, ...) (kind)
+#define HERD_FIRST_2(kind, ...) (kind), HERD_FIRST_1(__VA_ARGS__)
+#define HERD_FIRST_3(kind, ...) (kind), HERD_FIRST_2(__VA_ARGS__)
+#define HERD_FIRST_4(kind, ...) (kind), HERD_FIRST_3(__VA_ARGS__)
+#define HERD_FIRST_5(kind, ...) (kind), HERD_FIRST_4(__VA_ARGS__)
+#define HERD_FIRST_6(kind, ...) (kind), HERD_FIRST_5(__VA_ARGS__)
+#define HERD_FIRST_7(kind, ...) (kind), HERD_FIRST_6(__VA_ARGS__)
+#define HERD_FIRST_8(kind, ...) (kind), HERD_FIRST_7(__VA_ARGS__)
+#define HERD_FIRST_9(kind, ...) (kind), HERD_FIRST_8(__VA_ARGS__)
+#define HERD_FIRST_10(kind, ...) (kind), HERD_FIRST_9(__VA_ARGS__)
+#define HERD_FIRST_11(kind, ...) (kind), HERD_FIRST_10(__VA_ARGS__)
+#define HERD_FIRST_12(kind, ...) (kind), HERD_FIRST_11(__VA_ARGS__)
+#define HERD_FIRST_13(kind, ...) (kind), HERD_FIRST_12(__VA_ARGS__)
+#define HERD_FIRST_14(kind, ...) (kind), HERD_FIRST_13(__VA_ARGS__)
+#define HERD_FIRST_15(kind, ...) (kind), HERD_FIRST_14(__VA_ARGS__)
+#define HERD_FIRST_16(kind, ...) (kind), HERD_FIRST_15(__VA_ARGS__)
+
+/* The word at which the block of a relation begins; the words from there on. */
+#define HERD_BLOCK(relation) ((size_t)1 + HERD_BLOCK_WORDS * ((size_t)(relation) - 1))
+#define HERD_COUNT_WORD 0
+#define HERD_KIND_WORDS 1
+#define HERD_KEY_WORDS (HERD_KIND_WORDS + HERD_FIELDS)
+
+/*
+ * The table: 16 + 20N words, N from 0 to 4,096. A table file or message is these words, little-endian (herd_words_to_bytes).
  *
  *   uint64_t table[HERD_TABLE_WORDS(300)];
  */
 #define HERD_HEADER_WORDS 16
-#define HERD_RECORD_WORDS 20
+#define HERD_HEAD_WORDS 4
+#define HERD_RECORD_WORDS (HERD_HEAD_WORDS + 2 * HERD_FIELDS)
 #define HERD_MOST_RECORDS 4096
 #define HERD_TABLE_WORDS(records) (HERD_HEADER_WORDS + HERD_RECORD_WORDS * (size_t)(records))
 
@@ -127,19 +184,21 @@ typedef uint64_t herd_schema[HERD_SCHEMA_WORDS];
 #define HERD_RELATION_WORD 1
 #define HERD_LABEL_WORD 2
 #define HERD_FLAG_WORD 3
-#define HERD_VALUE_WORDS 4
-#define HERD_STAMP_WORDS 12
+#define HERD_VALUE_WORDS HERD_HEAD_WORDS
+#define HERD_STAMP_WORDS (HERD_VALUE_WORDS + HERD_FIELDS)
 
-/* A delta, what an edit changed, is a table of nine records. It need not be zeroed again between edits. */
-#define HERD_DELTA_RECORDS 9
-#define HERD_DELTA_WORDS 196
+/* A delta, what an edit changed, is a table of nine records, 196 words. It need not be zeroed again between edits. */
+#define HERD_DELTA_RECORDS (HERD_FIELDS + 1)
+#define HERD_DELTA_WORDS (HERD_HEADER_WORDS + HERD_RECORD_WORDS * HERD_DELTA_RECORDS)
 
 typedef uint64_t herd_delta[HERD_DELTA_WORDS];
 
 /*
  * The stack that each call needs at most, in bytes, without what interrupts, signals and lazy dynamic linking take. Measured by
- * tools/stack on tables of 4,096 records; the calls do not recurse, and their arrays have fixed sizes.
+ * tools/stack on tables of 4,096 records; the calls do not recurse, and their arrays have fixed sizes, so that a small table needs as
+ * much.
  */
+#define HERD_STACK_VERSION 64
 #define HERD_STACK_SCHEMA_CHECK 192
 #define HERD_STACK_TABLE_CHECK 192
 #define HERD_STACK_START 128
@@ -152,80 +211,87 @@ typedef uint64_t herd_delta[HERD_DELTA_WORDS];
 #define HERD_STACK_VALUES 64
 #define HERD_STACK 119296 /* the largest of them */
 
+/* The version of the linked library, as HERD_VERSION is made. */
+HERD_CALL uint64_t herd_version(void);
+
+/* Whether the linked library fits this header: the same major part, and at least its minor part. */
+static inline int herd_version_fits(void)
+{
+    const uint64_t version = herd_version();
+    return version / 10000 == HERD_VERSION_MAJOR && version / 100 >= HERD_VERSION / 100;
+}
+
 /*
  * Whether the words are a schema that is not broken.
- * Needs: schema_words 97.
  * Answers: 0, 1, 2.
  */
-uint64_t herd_schema_check(const uint64_t *schema, size_t schema_words);
+HERD_CALL uint64_t herd_schema_check(const uint64_t *schema, size_t schema_words);
 
 /*
  * Whether the words are a well-formed table under the schema.
- * Needs: schema_words 97; table_words 16 + 20N.
  * Answers: 0, 1, 2, 3.
  */
-uint64_t herd_table_check(const uint64_t *schema, size_t schema_words, const uint64_t *table, size_t table_words);
+HERD_CALL uint64_t herd_table_check(const uint64_t *schema, size_t schema_words, const uint64_t *table, size_t table_words);
 
 /*
  * Starts a table: zeroes it and writes the replica number. Old contents are ignored.
- * Needs: table_words 16 + 20N; replica 1 to 255, another one for each table.
+ * Needs: replica 1 to 255, another one for each table.
  * Answers: 0, 1, 5.
  * Changes: table.
  */
-uint64_t herd_start(uint64_t *table, size_t table_words, uint64_t replica);
+HERD_CALL uint64_t herd_start(uint64_t *table, size_t table_words, uint64_t replica);
 
 /*
  * Merges another table, or a delta, into the own table. Records of both are joined; others are added after the used ones.
  * The own replica number and the indices of the own records remain; the clock becomes the larger one.
- * Needs: schema_words 97; own_words and other_words 16 + 20N, each with its own N.
+ * Needs: room for the records of both. The two tables may have different N.
  * Answers: 0, 1, 2, 3, 4, 11.
  * Changes: own.
  */
-uint64_t herd_merge(const uint64_t *schema, size_t schema_words, uint64_t *own, size_t own_words, const uint64_t *other,
-                    size_t other_words);
+HERD_CALL uint64_t herd_merge(const uint64_t *schema, size_t schema_words, uint64_t *own, size_t own_words, const uint64_t *other,
+                              size_t other_words);
 
 /*
  * Inserts a record, at index used + 1. Its label is the clock + 1 with the own replica number; the clock rises by 1.
  * Deleted records that it references are redone.
- * Needs: schema_words 97; own_words 16 + 20N; delta_words 196; a value for each field of the relation, references to shown records.
+ * Needs: a value for each field of the relation, references to shown records.
  * Answers: 0, 1, 2, 3, 5, 7, 8, 9, 11, 12, 13.
  * Changes: own; delta, which becomes the changed records; *label, the new label, 0 in a refusal.
  */
-uint64_t herd_insert(const uint64_t *schema, size_t schema_words, uint64_t *own, size_t own_words, uint64_t *delta,
-                     size_t delta_words, size_t relation, const uint64_t *values, size_t value_count, uint64_t *label);
+HERD_CALL uint64_t herd_insert(const uint64_t *schema, size_t schema_words, uint64_t *own, size_t own_words, uint64_t *delta,
+                               size_t delta_words, size_t relation, const uint64_t *values, size_t value_count, uint64_t *label);
 
 /*
  * Updates one field of a shown record; the clock rises by 1. A deleted new target is redone, and so is a deleted old target by abort
  * that another record still references.
- * Needs: schema_words 97; own_words 16 + 20N; delta_words 196; index 1 to used; field 1 to F of the record's relation.
+ * Needs: index 1 to used; field 1 to F of the record's relation.
  * Answers: 0, 1, 2, 3, 6, 7, 8, 9, 12, 13.
  * Changes: own; delta, which becomes the changed records.
  */
-uint64_t herd_update(const uint64_t *schema, size_t schema_words, uint64_t *own, size_t own_words, uint64_t *delta,
-                     size_t delta_words, size_t index, size_t field, uint64_t value);
+HERD_CALL uint64_t herd_update(const uint64_t *schema, size_t schema_words, uint64_t *own, size_t own_words, uint64_t *delta,
+                               size_t delta_words, size_t index, size_t field, uint64_t value);
 
 /*
  * Deletes a shown record: its flag is raised, and the clock stays. The record keeps its index. Its deleted targets by abort that
  * another record still references are redone.
- * Needs: schema_words 97; own_words 16 + 20N; delta_words 196; index 1 to used.
+ * Needs: index 1 to used.
  * Answers: 0, 1, 2, 3, 6, 10, 13.
  * Changes: own; delta, which becomes the changed records.
  */
-uint64_t herd_delete(const uint64_t *schema, size_t schema_words, uint64_t *own, size_t own_words, uint64_t *delta,
-                     size_t delta_words, size_t index);
+HERD_CALL uint64_t herd_delete(const uint64_t *schema, size_t schema_words, uint64_t *own, size_t own_words, uint64_t *delta,
+                               size_t delta_words, size_t index);
 
 /*
  * Marks the shown records: byte i - 1 becomes 1 if record i is shown, and otherwise 0. Old contents are ignored.
- * Needs: schema_words 97; table_words 16 + 20N; mark_count N.
  * Answers: 0, 1, 2, 3.
  * Changes: marks; *shown, the count of shown records, 0 in a refusal.
  */
-uint64_t herd_marks(const uint64_t *schema, size_t schema_words, const uint64_t *table, size_t table_words, uint8_t *marks,
-                    size_t mark_count, uint64_t *shown);
+HERD_CALL uint64_t herd_marks(const uint64_t *schema, size_t schema_words, const uint64_t *table, size_t table_words, uint8_t *marks,
+                              size_t mark_count, uint64_t *shown);
 
 /*
  * The next marked record after *place, by relation and then label. It checks the whole table at each call.
- * Needs: schema_words 97; table_words 16 + 20N; mark_count N; *place 0 for the first record, then as the call before left it.
+ * Needs: *place 0 for the first record, then as the call before left it.
  * Answers: 0, 1, 2, 3. A place above used or above N gives 1.
  * Changes: *place, the index of the record given; *given, the same, 0 at the end of the list and in a refusal. The place does not
  * move there.
@@ -234,16 +300,77 @@ uint64_t herd_marks(const uint64_t *schema, size_t schema_words, const uint64_t 
  *   while (herd_walk(schema, HERD_SCHEMA_WORDS, table, words, marks, records, &place, &given) == HERD_DONE && given != 0)
  *       ...
  */
-uint64_t herd_walk(const uint64_t *schema, size_t schema_words, const uint64_t *table, size_t table_words, const uint8_t *marks,
-                   size_t mark_count, uint64_t *place, uint64_t *given);
+HERD_CALL uint64_t herd_walk(const uint64_t *schema, size_t schema_words, const uint64_t *table, size_t table_words, const uint8_t *marks,
+                             size_t mark_count, uint64_t *place, uint64_t *given);
 
 /*
- * Where the eight values of a record are: table[*first] to table[*first + 7]. Those above the relation's fields are 0.
- * Needs: table_words 16 + 20N; index 1 to used. The table is not checked otherwise.
+ * Where the values of a record are: table[*first] to table[*first + HERD_FIELDS - 1]. Those above the relation's fields are 0.
+ * Needs: index 1 to used. The table is not checked otherwise.
  * Answers: 0, 1.
  * Changes: *first, 0 in a refusal.
  */
-uint64_t herd_values(const uint64_t *table, size_t table_words, size_t index, uint64_t *first);
+HERD_CALL uint64_t herd_values(const uint64_t *table, size_t table_words, size_t index, uint64_t *first);
+
+/* What an answer means, for a log. */
+static inline const char *herd_answer_text(uint64_t answer)
+{
+    switch (answer) {
+    case HERD_DONE:
+        return "done";
+    case HERD_LENGTH_OR_INDEX:
+        return "a lent slice other than an insertion's values has a wrong length, or a record index is 0, above used or above N";
+    case HERD_SCHEMA_BROKEN:
+        return "schema broken";
+    case HERD_OWN_NOT_WELL_FORMED:
+        return "own table not well-formed";
+    case HERD_OTHER_NOT_WELL_FORMED:
+        return "other table not well-formed";
+    case HERD_RELATION_OR_REPLICA:
+        return "relation not 1 to R, or replica not 1 to 255 at start";
+    case HERD_NOT_SHOWN:
+        return "record to edit is not shown";
+    case HERD_FIELD_OR_VALUE:
+        return "field not 1 to F, wrong value count, reference neither 0 nor a label";
+    case HERD_TARGET_NOT_SHOWN:
+        return "nonempty new target not shown";
+    case HERD_CONFLICT:
+        return "insertion: a standing record conflicts with the new one; "
+               "update: another standing record would conflict on a key that names the field";
+    case HERD_REFERENCED:
+        return "deletion: another standing record references it by abort";
+    case HERD_FULL:
+        return "merge needs more than N distinct records; insertion with used = N";
+    case HERD_CLOCK_AT_END:
+        return "insertion or update with clock 2^40 - 1";
+    case HERD_FLAG_AT_END:
+        return "a flag to be redone is 65,535";
+    default:
+        return "no answer of this version";
+    }
+}
+
+/* The bytes of so many words in a file or a message, and of one. */
+#define HERD_WORD_BYTES 8
+#define HERD_BYTES(words) (HERD_WORD_BYTES * (size_t)(words))
+
+/* Writes words as bytes, little-endian: HERD_BYTES(word_count) of them. The two may not overlap. */
+HERD_NONNULL static inline void herd_words_to_bytes(const uint64_t *words, size_t word_count, uint8_t *bytes)
+{
+    size_t at;
+    for (at = 0; at < HERD_BYTES(word_count); at++)
+        bytes[at] = (uint8_t)(words[at / HERD_WORD_BYTES] >> (8 * (at % HERD_WORD_BYTES)));
+}
+
+/* Reads words from HERD_BYTES(word_count) bytes, little-endian. The two may not overlap. */
+HERD_NONNULL static inline void herd_words_from_bytes(const uint8_t *bytes, size_t word_count, uint64_t *words)
+{
+    size_t at, byte;
+    for (at = 0; at < word_count; at++) {
+        words[at] = 0;
+        for (byte = HERD_WORD_BYTES; byte > 0; byte--)
+            words[at] = words[at] << 8 | (uint64_t)bytes[HERD_BYTES(at) + byte - 1];
+    }
+}
 
 #ifdef __cplusplus
 }

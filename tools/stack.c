@@ -1,6 +1,7 @@
 /*
  * The stack that each call of libherd.a needs, measured. Each call runs on a stack of its own that is painted before; the depth is what it
- * overwrote. The tables have 4,096 records. Prints the bytes of each call; exits with 1 if one passes what include/herd.h tells, or LIMIT.
+ * overwrote. The tables have the most records. Prints the bytes of each call; exits with 1 if include/herd.h tells another number than the
+ * bytes of a call rounded up, or if one passes LIMIT.
  *
  * Run by tools/stack. With an argument it prints `NAME BYTES` lines alone, rounded up, for tools/stack --write.
  */
@@ -16,19 +17,20 @@ enum { LIMIT = 131072, STACK = 1 << 20, ROUND = 64 };
 
 enum { N = HERD_MOST_RECORDS, WORDS = HERD_TABLE_WORDS(HERD_MOST_RECORDS) };
 
-/* Groups, cows, milkings, and pens of eight groups by abort. */
+/* Groups, cows, milkings, and pens, which have a group by abort in every field. */
 enum { GROUP = 1, COW = 2, MILKING = 3, PEN = 4 };
 
-static const herd_schema SCHEMA = {
+static herd_schema schema = {
     4,
-    HERD_RELATION(1, HERD_PLAIN, 0, 0, 0, 0, 0, 0, 0, HERD_FIELD(1), 0),
-    HERD_RELATION(2, HERD_PLAIN, HERD_ABORT(GROUP), 0, 0, 0, 0, 0, 0, HERD_FIELD(1), HERD_FIELD(1) | HERD_FIELD(2)),
-    HERD_RELATION(2, HERD_PROPAGATION(COW), HERD_PLAIN, 0, 0, 0, 0, 0, 0, 0, 0),
-    HERD_RELATION(8, HERD_ABORT(GROUP), HERD_ABORT(GROUP), HERD_ABORT(GROUP), HERD_ABORT(GROUP), HERD_ABORT(GROUP), HERD_ABORT(GROUP),
-                  HERD_ABORT(GROUP), HERD_ABORT(GROUP), 0, 0),
+    HERD_RELATION(HERD_FIELD(1), 0, HERD_PLAIN),
+    HERD_RELATION(HERD_FIELD(1), HERD_FIELD(1) | HERD_FIELD(2), HERD_PLAIN, HERD_ABORT(GROUP)),
+    HERD_RELATION(0, 0, HERD_PROPAGATION(COW), HERD_PLAIN),
 };
 
-enum { GROUPS = 64, COWS = 1024 };
+enum { GROUPS = 64, PENS = 8, COWS = 1024 };
+
+/* The last group, pen and cow. */
+enum { LAST_GROUP = GROUPS, LAST_PEN = LAST_GROUP + PENS, LAST_COW = LAST_PEN + COWS };
 
 static uint64_t own[WORDS], other[WORDS];
 static herd_delta delta;
@@ -50,27 +52,45 @@ static void put(uint64_t *table, size_t index, uint64_t of, uint64_t counter, ui
     }
 }
 
+static void finish_schema(void)
+{
+    uint64_t *block = schema + HERD_BLOCK(PEN);
+    size_t at;
+    block[HERD_COUNT_WORD] = HERD_FIELDS;
+    for (at = 0; at < HERD_FIELDS; at++)
+        block[HERD_KIND_WORDS + at] = HERD_ABORT(GROUP);
+}
+
+/* For what is made here no call may refuse. */
+static void must(uint64_t told)
+{
+    if (told != HERD_DONE) {
+        fprintf(stderr, "stack: %s\n", herd_answer_text(told));
+        exit(2);
+    }
+}
+
 /*
- * A table of `used` records with labels from `counter` + 1 on: groups, all deleted and held by others, eight pens, cows, then milkings.
+ * A table of `used` records with labels from `counter` + 1 on: groups, all deleted and held by others, pens, cows, then milkings.
  */
 static void fill(uint64_t *table, size_t used, uint64_t counter, uint64_t replica)
 {
     uint64_t last[HERD_MOST_RELATIONS + 1] = {0};
     size_t index;
-    herd_start(table, WORDS, replica);
+    must(herd_start(table, WORDS, replica));
     for (index = 1; index <= used; index++) {
-        uint64_t of = index <= GROUPS ? GROUP : index <= GROUPS + 8 ? PEN : index <= GROUPS + 8 + COWS ? COW : MILKING;
+        uint64_t of = index <= LAST_GROUP ? GROUP : index <= LAST_PEN ? PEN : index <= LAST_COW ? COW : MILKING;
         uint64_t name = counter + index, from[HERD_FIELDS];
-        size_t fields = of == GROUP ? 1 : of == PEN ? 8 : 2, at;
+        size_t at;
         for (at = 0; at < HERD_FIELDS; at++)
             from[at] = HERD_LABEL(counter + 1 + (index + at) % GROUPS, 1);
         if (of == GROUP || of == COW)
             from[0] = name;
         if (of == MILKING) {
-            from[0] = HERD_LABEL(counter + GROUPS + 9 + index % COWS, 1);
+            from[0] = HERD_LABEL(counter + LAST_PEN + 1 + index % COWS, 1);
             from[1] = 9000;
         }
-        put(table, index, of, name, of == GROUP, from, fields);
+        put(table, index, of, name, of == GROUP, from, (size_t)schema[HERD_BLOCK(of) + HERD_COUNT_WORD]);
         if (last[of] == 0)
             table[HERD_FIRST_WORDS + of - 1] = index;
         else
@@ -83,17 +103,22 @@ static void fill(uint64_t *table, size_t used, uint64_t counter, uint64_t replic
 
 static void call_nothing(void)
 {
-    answer = 0;
+    answer = HERD_DONE;
+}
+
+static void call_version(void)
+{
+    answer = herd_version() == HERD_VERSION ? HERD_DONE : HERD_LENGTH_OR_INDEX;
 }
 
 static void call_schema_check(void)
 {
-    answer = herd_schema_check(SCHEMA, HERD_SCHEMA_WORDS);
+    answer = herd_schema_check(schema, HERD_SCHEMA_WORDS);
 }
 
 static void call_table_check(void)
 {
-    answer = herd_table_check(SCHEMA, HERD_SCHEMA_WORDS, own, WORDS);
+    answer = herd_table_check(schema, HERD_SCHEMA_WORDS, own, WORDS);
 }
 
 static void call_start(void)
@@ -103,32 +128,32 @@ static void call_start(void)
 
 static void call_merge(void)
 {
-    answer = herd_merge(SCHEMA, HERD_SCHEMA_WORDS, own, WORDS, other, WORDS);
+    answer = herd_merge(schema, HERD_SCHEMA_WORDS, own, WORDS, other, WORDS);
 }
 
 static void call_insert(void)
 {
-    answer = herd_insert(SCHEMA, HERD_SCHEMA_WORDS, own, WORDS, delta, HERD_DELTA_WORDS, relation, values, value_count, &label);
+    answer = herd_insert(schema, HERD_SCHEMA_WORDS, own, WORDS, delta, HERD_DELTA_WORDS, relation, values, value_count, &label);
 }
 
 static void call_update(void)
 {
-    answer = herd_update(SCHEMA, HERD_SCHEMA_WORDS, own, WORDS, delta, HERD_DELTA_WORDS, record, field, value);
+    answer = herd_update(schema, HERD_SCHEMA_WORDS, own, WORDS, delta, HERD_DELTA_WORDS, record, field, value);
 }
 
 static void call_delete(void)
 {
-    answer = herd_delete(SCHEMA, HERD_SCHEMA_WORDS, own, WORDS, delta, HERD_DELTA_WORDS, record);
+    answer = herd_delete(schema, HERD_SCHEMA_WORDS, own, WORDS, delta, HERD_DELTA_WORDS, record);
 }
 
 static void call_marks(void)
 {
-    answer = herd_marks(SCHEMA, HERD_SCHEMA_WORDS, own, WORDS, marks, N, &shown);
+    answer = herd_marks(schema, HERD_SCHEMA_WORDS, own, WORDS, marks, N, &shown);
 }
 
 static void call_walk(void)
 {
-    answer = herd_walk(SCHEMA, HERD_SCHEMA_WORDS, own, WORDS, marks, N, &place, &given);
+    answer = herd_walk(schema, HERD_SCHEMA_WORDS, own, WORDS, marks, N, &place, &given);
 }
 
 static void call_values(void)
@@ -163,6 +188,7 @@ struct measured {
 };
 
 static struct measured calls[] = {
+    {"VERSION", call_version, HERD_STACK_VERSION, 0},
     {"SCHEMA_CHECK", call_schema_check, HERD_STACK_SCHEMA_CHECK, 0},
     {"TABLE_CHECK", call_table_check, HERD_STACK_TABLE_CHECK, 0},
     {"START", call_start, HERD_STACK_START, 0},
@@ -206,39 +232,40 @@ static void measure_reads(void)
 {
     size_t at;
     fill(own, N, 0, 1);
-    measure(call_schema_check, 0);
-    measure(call_table_check, 0);
-    measure(call_marks, 0);
+    measure(call_version, HERD_DONE);
+    measure(call_schema_check, HERD_DONE);
+    measure(call_table_check, HERD_DONE);
+    measure(call_marks, HERD_DONE);
     call_marks();
     for (at = 0; at <= N; at += 512) {
         place = at;
-        measure(call_walk, 0);
+        measure(call_walk, HERD_DONE);
     }
     memset(marks, 0, N);
     place = 0;
-    measure(call_walk, 0);
+    measure(call_walk, HERD_DONE);
     record = N;
-    measure(call_values, 0);
+    measure(call_values, HERD_DONE);
     record = N + 1;
-    measure(call_values, 1);
-    measure(call_start, 0);
-    own[HERD_RECORD(N)] = 1;
-    measure(call_table_check, 3);
-    measure(call_marks, 3);
+    measure(call_values, HERD_LENGTH_OR_INDEX);
+    measure(call_start, HERD_DONE);
+    own[HERD_RECORD(N) + HERD_NEXT_WORD] = 1;
+    measure(call_table_check, HERD_OWN_NOT_WELL_FORMED);
+    measure(call_marks, HERD_OWN_NOT_WELL_FORMED);
 }
 
 static void measure_merges(void)
 {
     fill(own, N, 0, 1);
     fill(other, N, 0, 2);
-    measure(call_merge, 0);
-    herd_start(own, WORDS, 1);
-    measure(call_merge, 0);
+    measure(call_merge, HERD_DONE);
+    must(herd_start(own, WORDS, 1));
+    measure(call_merge, HERD_DONE);
     fill(own, N / 2, 0, 1);
-    measure(call_merge, 0);
+    measure(call_merge, HERD_DONE);
     fill(other, N, 7, 2);
     measure(call_merge, HERD_FULL);
-    other[HERD_RECORD(N)] = 1;
+    other[HERD_RECORD(N) + HERD_NEXT_WORD] = 1;
     measure(call_merge, HERD_OTHER_NOT_WELL_FORMED);
 }
 
@@ -246,74 +273,80 @@ static void measure_edits(void)
 {
     size_t at;
     fill(own, N - 1, 0, 1);
-    /* A pen of eight deleted groups: nine records change. */
+    /* A pen of deleted groups: as many records change as a delta holds. */
     relation = PEN;
-    value_count = 8;
-    for (at = 0; at < 8; at++)
+    value_count = HERD_FIELDS;
+    for (at = 0; at < HERD_FIELDS; at++)
         values[at] = HERD_LABEL(1 + at, 1);
-    measure(call_insert, 0);
+    measure(call_insert, HERD_DONE);
     relation = COW;
     value_count = 2;
-    values[0] = 1 + GROUPS + 8;
+    values[0] = LAST_PEN + 1;
     measure(call_insert, HERD_CONFLICT);
     values[0] = 2;
-    measure(call_insert, 0);
+    measure(call_insert, HERD_DONE);
     own[HERD_RECORD(1) + HERD_FLAG_WORD] = HERD_LARGEST_FLAG;
     values[1] = HERD_LABEL(1, 1);
     measure(call_insert, HERD_FLAG_AT_END);
     fill(own, N, 0, 1);
     measure(call_insert, HERD_FULL);
     /* A cow from one deleted group to another: three records change. */
-    record = GROUPS + 8 + 1;
+    record = LAST_PEN + 1;
     field = 2;
     value = HERD_LABEL(40, 1);
-    measure(call_update, 0);
+    measure(call_update, HERD_DONE);
     field = 1;
     value = 2;
-    measure(call_update, 0);
-    value = GROUPS + 8 + 2;
+    measure(call_update, HERD_DONE);
+    value = LAST_PEN + 2;
     measure(call_update, HERD_CONFLICT);
-    measure(call_delete, 0);
-    /* A pen of eight deleted groups: nine records change. */
-    record = GROUPS + 1;
-    measure(call_delete, 0);
+    measure(call_delete, HERD_DONE);
+    /* A pen of deleted groups: as many records change as a delta holds. */
+    record = LAST_GROUP + 1;
+    measure(call_delete, HERD_DONE);
     record = 1;
     measure(call_delete, HERD_REFERENCED);
+}
+
+/* What the header tells for a call: the bytes measured, rounded up. */
+static size_t rounded(size_t bytes)
+{
+    return (bytes + ROUND - 1) / ROUND * ROUND;
+}
+
+/* Whether the header tells what is measured, and that is within the limit. */
+static int agrees(const char *name, size_t bytes, size_t told)
+{
+    if (rounded(bytes) != told)
+        printf("stack: include/herd.h tells %zu bytes for %s, and %zu are measured\n", told, name, rounded(bytes));
+    if (bytes > LIMIT)
+        printf("stack: %s passes %d bytes\n", name, LIMIT);
+    return rounded(bytes) == told && bytes <= LIMIT;
 }
 
 int main(int count, char **arguments)
 {
     size_t at, most = 0;
-    int failed = 0;
+    int good = 1;
     (void)arguments;
+    finish_schema();
     measure_reads();
     measure_merges();
     measure_edits();
-    for (at = 0; at < CALLS; at++)
-        if (calls[at].bytes > most)
-            most = calls[at].bytes;
     for (at = 0; at < CALLS; at++) {
         size_t bytes = calls[at].bytes;
+        if (bytes > most)
+            most = bytes;
         if (count > 1) {
-            printf("%s %zu\n", calls[at].name, (bytes + ROUND - 1) / ROUND * ROUND);
+            printf("%s %zu\n", calls[at].name, rounded(bytes));
             continue;
         }
         printf("stack: %-12s %6zu bytes\n", calls[at].name, bytes);
-        if (bytes > calls[at].told) {
-            printf("stack: include/herd.h tells %zu bytes for %s\n", calls[at].told, calls[at].name);
-            failed = 1;
-        }
-        if (bytes > LIMIT) {
-            printf("stack: %s passes %d bytes\n", calls[at].name, LIMIT);
-            failed = 1;
-        }
+        good = agrees(calls[at].name, bytes, calls[at].told) && good;
     }
-    if (count == 1) {
-        if (most > HERD_STACK) {
-            printf("stack: include/herd.h tells %d bytes for all calls\n", HERD_STACK);
-            failed = 1;
-        }
-        printf("stack: a call that does nothing %zu bytes, the most %zu of %d\n", depth(call_nothing, 0xa5), most, LIMIT);
-    }
-    return failed;
+    if (count > 1)
+        return 0;
+    good = agrees("all calls", most, HERD_STACK) && good;
+    printf("stack: a call that does nothing %zu bytes, the most %zu of %d\n", depth(call_nothing, 0xa5), most, LIMIT);
+    return !good;
 }

@@ -1,26 +1,21 @@
 //! The benchmark: each call of the library against the second implementation and against a plain copy of the words that it
-//! is lent, side by side in one run. It prints a table and, with a path as its argument, writes the picture of it.
+//! is lent, side by side in one run. It prints the machine and a table and, with a path as its argument, writes the picture of it.
 
+mod machine;
 mod picture;
 mod tables;
 
-use herd::{raw, DELTA_WORDS, FIELDS, HEADER_WORDS, HEAD_WORDS, RECORD_WORDS};
+use herd::layout::{
+    record_word, DELTA_WORDS, FIELDS, HEAD_WORDS, LABEL_WORD, MOST_KEY_FIELDS, MOST_RECORDS,
+    RELATION_WORD, USED_WORD,
+};
+use herd::raw;
 use second::random::Random;
 use std::hint::black_box;
 use std::time::Instant;
 use tables::Subject;
 
-const SIZES: [usize; 4] = [64, 256, 1024, 4096];
-
-/// Words of a table: how many records are used, and of a record its relation and its label.
-const USED: usize = 2;
-const RELATION: usize = 1;
-const LABEL: usize = 2;
-
-/// The first word of the record with an index.
-fn record_at(index: usize) -> usize {
-    HEADER_WORDS + RECORD_WORDS * (index - 1)
-}
+const SIZES: [usize; 4] = [MOST_RECORDS / 64, MOST_RECORDS / 16, MOST_RECORDS / 4, MOST_RECORDS];
 
 /// One line: a call on a subject, with nanoseconds for each size.
 pub struct Line {
@@ -33,16 +28,23 @@ pub struct Line {
     pub base: Vec<f64>,
 }
 
-/// The least of several timings, in nanoseconds. `before` makes the input and is not timed.
+/// The least of several timings, in nanoseconds; of three, where these take long. `before` makes the input and is not timed.
 fn timed<T>(times: usize, mut before: impl FnMut() -> T, mut call: impl FnMut(&mut T)) -> f64 {
+    const FEW: usize = 3;
+    const LONG: f64 = 2e9;
     let mut least = f64::MAX;
-    for _ in 0..times {
+    let mut sum = 0.0;
+    for at in 0..times {
+        if at >= FEW && sum > LONG {
+            break;
+        }
         let mut input = before();
         let start = Instant::now();
         call(&mut input);
         let spent = start.elapsed().as_nanos() as f64;
         black_box(&mut input);
         least = least.min(spent);
+        sum += spent;
     }
     least
 }
@@ -211,7 +213,7 @@ fn walks(subjects: &[Subject]) -> Line {
 }
 
 fn values(subjects: &[Subject]) -> Line {
-    line("values", "pass of 8 words", subjects, |x, size| {
+    line("values", "pass of the values", subjects, |x, size| {
         let mut random = Random::new(3);
         let index = 1 + random.below(size as u64) as usize;
         (
@@ -222,7 +224,7 @@ fn values(subjects: &[Subject]) -> Line {
                 black_box(second::values(black_box(&x.full), black_box(index as u64)));
             }),
             quick(|| {
-                let at = record_at(black_box(index)) + HEAD_WORDS;
+                let at = record_word(black_box(index)) + HEAD_WORDS;
                 black_box(
                     x.full[at..at + FIELDS].iter().fold(0u64, |sum, word| sum.wrapping_add(*word)),
                 );
@@ -242,48 +244,64 @@ struct Change {
 /// The index of the last shown record of a relation; 0 where there is none.
 fn last_shown(x: &Subject, size: usize, relation: usize) -> usize {
     let mut bytes = vec![0u8; size];
-    raw::marks(&x.schema, &x.own, &mut bytes, &mut 0);
-    let of = |at: &usize| x.own[record_at(*at) + RELATION] == relation as u64 && bytes[at - 1] == 1;
-    (1..=x.own[USED] as usize).rev().find(of).unwrap_or(0)
+    raw::marks(&x.schema, &x.edited, &mut bytes, &mut 0);
+    let of = |at: &usize| {
+        x.edited[record_word(*at) + RELATION_WORD] == relation as u64 && bytes[at - 1] == 1
+    };
+    (1..=x.edited[USED_WORD] as usize).rev().find(of).unwrap_or(0)
 }
 
 /// A milking of a barn, and its grams.
 fn milking(x: &Subject, size: usize) -> Change {
-    let label = |relation| x.own[record_at(last_shown(x, size, relation)) + LABEL];
-    Change { relation: 4, values: vec![label(2), label(3), 9000, 385, 100], field: 3, value: 9100 }
+    let label = |relation| x.edited[record_word(last_shown(x, size, relation)) + LABEL_WORD];
+    let values = vec![label(tables::COW), label(tables::ROBOT), 9000, 385, 100];
+    Change { relation: tables::MILKING, values, field: 3, value: 9100 }
 }
 
 /// A record with keys of its own, and its first key.
 fn keyed(_: &Subject, size: usize) -> Change {
     let free = 3 * size as u64 + 1;
-    Change { relation: 1, values: vec![free, 7 * free, 5], field: 1, value: free }
+    Change { relation: tables::ONLY, values: vec![free, 7 * free, 5], field: 1, value: free }
+}
+
+/// A record with a key of its own in the one bucket, and the last field of its key.
+fn alike(_: &Subject, size: usize) -> Change {
+    let values = tables::alike_values(size as u64 + 1);
+    Change { relation: tables::ONLY, field: FIELDS, value: values[FIELDS - 1], values }
 }
 
 /// A record with an empty reference, beside a chain of which no record is shown.
 fn beside(_: &Subject, _: usize) -> Change {
-    Change { relation: 1, values: vec![0, 5], field: 2, value: 6 }
+    Change { relation: tables::ONLY, values: vec![0, 5], field: 2, value: 6 }
+}
+
+/// The same, with a key of its own in the one bucket.
+fn alike_beside(x: &Subject, size: usize) -> Change {
+    let mut change = alike(x, size);
+    change.values[..FIELDS - MOST_KEY_FIELDS].fill(0);
+    change
 }
 
 /// The edits of a table; the plain figure is the time of marks and of the merge of a delta, by the library. Where no record is
 /// shown there is only the insertion.
 fn edits(subjects: &[Subject], change: fn(&Subject, usize) -> Change) -> Vec<Line> {
-    const PLAIN: &str = "marks and merge of the delta";
+    const PLAIN: &str = "marks + merge";
     let sum = |x: &Subject, size: usize, delta: &[u64]| {
         timed(
             times(size).min(40),
             || vec![0u8; size],
             |m| {
-                black_box(raw::marks(&x.schema, &x.own, m, &mut 0));
+                black_box(raw::marks(&x.schema, &x.edited, m, &mut 0));
             },
         ) + timed(
             times(size),
-            || x.own.clone(),
+            || x.edited.clone(),
             |t| {
                 assert_eq!(raw::merge(&x.schema, t, delta), 0);
             },
         )
     };
-    let own = |x: &Subject| (x.own.clone(), vec![0u64; DELTA_WORDS]);
+    let own = |x: &Subject| (x.edited.clone(), vec![0u64; DELTA_WORDS]);
     let mut lines = vec![line("insertion", PLAIN, subjects, |x, size| {
         let c = change(x, size);
         let (mut t, mut d) = own(x);
@@ -364,30 +382,57 @@ fn edits(subjects: &[Subject], change: fn(&Subject, usize) -> Change) -> Vec<Lin
     lines
 }
 
+/// A number with a comma before its last three digits.
+fn grouped(number: usize) -> String {
+    match number {
+        0..=999 => number.to_string(),
+        _ => format!("{},{:03}", number / 1000, number % 1000),
+    }
+}
+
+/// A multiple, with the digits that tell something.
+fn multiple(ratio: f64) -> String {
+    if ratio < 0.1 {
+        format!("{ratio:.3}")
+    } else if ratio < 1.0 {
+        format!("{ratio:.2}")
+    } else if ratio < 100.0 {
+        format!("{ratio:.1}")
+    } else {
+        grouped(ratio.round() as usize)
+    }
+}
+
 fn time(nanoseconds: f64) -> String {
     if nanoseconds < 1000.0 {
         format!("{nanoseconds:.1} ns")
     } else if nanoseconds < 1_000_000.0 {
         format!("{:.1} µs", nanoseconds / 1000.0)
+    } else if nanoseconds < 100_000_000.0 {
+        format!("{:.1} ms", nanoseconds / 1_000_000.0)
     } else {
-        format!("{:.2} ms", nanoseconds / 1_000_000.0)
+        format!("{:.0} ms", nanoseconds / 1_000_000.0)
     }
 }
 
 fn print(lines: &[Line]) {
-    println!("| Call | Table | N = 64 | 256 | 1,024 | 4,096 | 1,024 to 4,096 | times a plain | second / library |");
+    println!("Machine: {}.\n", machine::name());
+    let [first, second, third, last] = SIZES.map(grouped);
+    println!(
+        "| Call | Table | N = {first} | {second} | {third} | {last} | {third} to {last} | times a plain | second / library |"
+    );
     println!("|---|---|---|---|---|---|---|---|---|");
     for made in lines {
         let cells: Vec<String> = made.library.iter().map(|spent| time(*spent)).collect();
         println!(
-            "| {} | {} | {} | {:.1} | {:.1} {} | {:.1} |",
+            "| {} | {} | {} | {:.1} | {} {} | {} |",
             made.call,
             made.subject,
             cells.join(" | "),
             made.library[3] / made.library[2],
-            made.library[3] / made.base[3],
+            multiple(made.library[3] / made.base[3]),
             made.plain,
-            made.second[3] / made.library[3],
+            multiple(made.second[3] / made.library[3]),
         );
     }
 }
@@ -395,26 +440,21 @@ fn print(lines: &[Line]) {
 fn main() {
     let barns: Vec<Subject> = SIZES.map(tables::barn_subject).into();
     let keys: Vec<Subject> = SIZES.map(tables::keys_subject).into();
+    let buckets: Vec<Subject> = SIZES.map(tables::bucket_subject).into();
     let chains: Vec<Subject> = SIZES.map(tables::chain_subject).into();
-    let mut lines = vec![
-        schemas(&barns),
-        checks(&barns),
-        checks(&keys),
-        checks(&chains),
-        starts(&barns),
-        merges(&barns),
-        merges(&keys),
-        merges(&chains),
-        marks(&barns),
-        marks(&keys),
-        marks(&chains),
-        walks(&barns),
-        walks(&keys),
-        values(&barns),
-    ];
+    let boths: Vec<Subject> = SIZES.map(tables::both_subject).into();
+    let mut lines = vec![schemas(&barns)];
+    lines.extend([&barns, &keys, &buckets, &chains].map(|subjects| checks(subjects)));
+    lines.push(starts(&barns));
+    lines.extend([&barns, &keys, &buckets, &chains].map(|subjects| merges(subjects)));
+    lines.extend([&barns, &keys, &buckets, &chains, &boths].map(|subjects| marks(subjects)));
+    lines.extend([&barns, &keys, &buckets].map(|subjects| walks(subjects)));
+    lines.push(values(&barns));
     lines.extend(edits(&barns, milking));
     lines.extend(edits(&keys, keyed));
+    lines.extend(edits(&buckets, alike));
     lines.extend(edits(&chains, beside));
+    lines.extend(edits(&boths, alike_beside));
     print(&lines);
     if let Some(path) = std::env::args().nth(1) {
         std::fs::write(path, picture::svg(&lines, &SIZES)).expect("the picture is written");

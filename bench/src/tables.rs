@@ -1,6 +1,7 @@
-//! The tables that are measured: a barn of six relations, and the two worst cases of the shown list.
+//! The tables that are measured: a barn of six relations, and the worst cases of the shown list.
 
-use second::cases::{record, schema_words};
+use herd::{SchemaBuilder, FIELDS, MOST_KEY_FIELDS};
+use second::cases::record;
 use second::label_of;
 use second::random::Random;
 use second::table::{Record, Table};
@@ -14,18 +15,32 @@ pub struct Subject {
     /// Two tables that have all records together and share nine tenths of them.
     pub own: Vec<u64>,
     pub other: Vec<u64>,
+    /// All records but the youngest, so that there is room for one.
+    pub edited: Vec<u64>,
+}
+
+pub const GROUP: usize = 1;
+pub const COW: usize = 2;
+pub const ROBOT: usize = 3;
+pub const MILKING: usize = 4;
+pub const CLEANING: usize = 5;
+pub const TREATMENT: usize = 6;
+
+/// The relation of the tables that have one.
+pub const ONLY: usize = 1;
+
+fn built(schema: SchemaBuilder) -> Vec<u64> {
+    schema.build().expect("the schema is not broken").words().to_vec()
 }
 
 /// Groups, cows, robots, milkings, cleanings and treatments.
-pub fn barn_schema() -> Vec<u64> {
-    schema_words(&[
-        (&[1], 1, 0),
-        (&[1, 1, 17], 1, 2),
-        (&[1], 1, 0),
-        (&[34, 19, 1, 1, 1], 0, 0),
-        (&[19, 1, 1], 0, 0),
-        (&[34, 1, 1], 0, 0),
-    ])
+fn barn_schema() -> Vec<u64> {
+    let schema = SchemaBuilder::new().relation().plain().key(&[1]);
+    let schema = schema.relation().plain().plain().abort(GROUP).key(&[1]).key(&[2]);
+    let schema = schema.relation().plain().key(&[1]);
+    let schema = schema.relation().propagation(COW).abort(ROBOT).plain().plain().plain();
+    let schema = schema.relation().abort(ROBOT).plain().plain();
+    built(schema.relation().propagation(COW).plain().plain())
 }
 
 fn words(capacity: usize, replica: u64, clock: u64, records: Vec<Record>) -> Vec<u64> {
@@ -48,27 +63,27 @@ pub fn barn(capacity: usize, random: &mut Random) -> Vec<Record> {
     let cow: Vec<u64> = (0..cows).map(|_| next()).collect();
     let mut records = Vec::new();
     for (at, label) in group.iter().enumerate() {
-        records.push(record(1, *label, 0, &[at as u64 + 1]));
+        records.push(record(GROUP as u64, *label, 0, &[at as u64 + 1]));
     }
     for (at, label) in robot.iter().enumerate() {
-        records.push(record(3, *label, 0, &[at as u64 + 1]));
+        records.push(record(ROBOT as u64, *label, 0, &[at as u64 + 1]));
     }
     for (at, label) in cow.iter().enumerate() {
         let tag = 1000 + at as u64;
         let flag = random.chance(1, 50) as u64;
-        records.push(record(2, *label, flag, &[tag, 500_000 + tag, random.pick(&group)]));
+        records.push(record(COW as u64, *label, flag, &[tag, 500_000 + tag, random.pick(&group)]));
     }
     while records.len() < capacity {
         let label = next();
         let minute = random.below(500_000);
         let flag = random.chance(1, 50) as u64;
         let made = match random.below(10) {
-            0 => record(5, label, flag, &[random.pick(&robot), minute, minute + 12]),
-            1 => record(6, label, flag, &[random.pick(&cow), minute, minute + 7000]),
+            0 => record(CLEANING as u64, label, flag, &[random.pick(&robot), minute, minute + 12]),
+            1 => record(TREATMENT as u64, label, flag, &[random.pick(&cow), minute, minute + 7000]),
             _ => {
                 let grams = 6000 + random.below(9000);
                 record(
-                    4,
+                    MILKING as u64,
                     label,
                     flag,
                     &[
@@ -107,7 +122,9 @@ fn shared(
     let full = words(capacity, 1, clock, without(&[]));
     let own = words(capacity, 1, clock, without(&order[..left]));
     let other = words(capacity, 2, clock, without(&order[left..2 * left]));
-    Subject { name, schema, full, own, other }
+    let youngest = (0..capacity).max_by_key(|at| records[*at].label);
+    let edited = words(capacity, 1, clock, without(youngest.as_slice()));
+    Subject { name, schema, full, own, other, edited }
 }
 
 pub fn barn_subject(capacity: usize) -> Subject {
@@ -120,22 +137,72 @@ pub fn barn_subject(capacity: usize) -> Subject {
 pub fn keys_subject(capacity: usize) -> Subject {
     let mut random = Random::new(8);
     let records = (1..=capacity as u64)
-        .map(|at| record(1, label_of(at, 1 + at % 3), 0, &[3 * at, 7 * at, at]))
+        .map(|at| record(ONLY as u64, label_of(at, 1 + at % 3), 0, &[3 * at, 7 * at, at]))
         .collect();
-    shared("two keys", schema_words(&[(&[1, 1, 1], 1, 2)]), capacity, records, &mut random)
+    let schema = SchemaBuilder::new().relation().plain().plain().plain().key(&[1]).key(&[2]);
+    shared("two keys", built(schema), capacity, records, &mut random)
+}
+
+/// Values that are different and have one sum of their halves: they have the same digest.
+fn alike(at: u64) -> u64 {
+    const SUM: u64 = 1 << 20;
+    (at << 32) + SUM - at
+}
+
+/// A record's values that differ from those of the others in the last field alone.
+pub fn alike_values(at: u64) -> Vec<u64> {
+    let mut values = vec![7; FIELDS];
+    values[FIELDS - 1] = alike(at);
+    values
+}
+
+/// The last four fields are the key, twice.
+fn alike_keys(schema: SchemaBuilder) -> SchemaBuilder {
+    let key = [FIELDS - 3, FIELDS - 2, FIELDS - 1, FIELDS];
+    schema.key(&key).key(&key)
+}
+
+/// All records in one relation, with as many fields as there can be and two keys of four fields, no two alike, and all in one bucket
+/// of step 3: it compares each record with all older ones, on every field.
+pub fn bucket_subject(capacity: usize) -> Subject {
+    let mut random = Random::new(10);
+    let records = (1..=capacity as u64)
+        .map(|at| record(ONLY as u64, label_of(at, 1 + at % 3), 0, &alike_values(at)))
+        .collect();
+    let schema = (0..FIELDS).fold(SchemaBuilder::new().relation(), |schema, _| schema.plain());
+    shared("one bucket", built(alike_keys(schema)), capacity, records, &mut random)
+}
+
+/// The target of a record of a chain: the one before it, and of the first one none that there is.
+fn target(at: u64, capacity: usize) -> u64 {
+    label_of(if at == 1 { capacity as u64 + 5 } else { at - 1 }, 1)
 }
 
 /// Each record references the one before it by abort, a chain as long as the table whose first reference finds no record. The
 /// records stand in the reverse order, so that a round of step 4 drops one of them.
 pub fn chain_subject(capacity: usize) -> Subject {
     let mut random = Random::new(9);
-    let label = |at: u64| label_of(at, 1);
+    let records = (1..=capacity as u64)
+        .rev()
+        .map(|at| record(ONLY as u64, label_of(at, 1), 0, &[target(at, capacity), at]))
+        .collect();
+    let schema = SchemaBuilder::new().relation().abort(ONLY).plain();
+    shared("chain", built(schema), capacity, records, &mut random)
+}
+
+/// A chain of records whose keys are all in one bucket, by all fields that are not the key's: the worst of step 3 and of step 4.
+pub fn both_subject(capacity: usize) -> Subject {
+    let mut random = Random::new(11);
     let records = (1..=capacity as u64)
         .rev()
         .map(|at| {
-            let target = if at == 1 { label_of(capacity as u64 + 5, 1) } else { label(at - 1) };
-            record(1, label(at), 0, &[target, at])
+            let mut values = alike_values(at);
+            values[..FIELDS - MOST_KEY_FIELDS].fill(target(at, capacity));
+            record(ONLY as u64, label_of(at, 1), 0, &values)
         })
         .collect();
-    shared("chain", schema_words(&[(&[17, 1], 0, 0)]), capacity, records, &mut random)
+    let schema = SchemaBuilder::new().relation();
+    let schema = (MOST_KEY_FIELDS..FIELDS).fold(schema, |schema, _| schema.abort(ONLY));
+    let schema = (0..MOST_KEY_FIELDS).fold(schema, |schema, _| schema.plain());
+    shared("chain in one bucket", built(alike_keys(schema)), capacity, records, &mut random)
 }

@@ -14,11 +14,11 @@ enum { GROUP = 1, COW = 2, MILKING = 3 };
 static const herd_schema FARM = {
     3,
     /* group: name; key name */
-    HERD_RELATION(1, HERD_PLAIN, 0, 0, 0, 0, 0, 0, 0, HERD_FIELD(1), 0),
+    HERD_RELATION(HERD_FIELD(1), 0, HERD_PLAIN),
     /* cow: tag, group; key tag */
-    HERD_RELATION(2, HERD_PLAIN, HERD_ABORT(GROUP), 0, 0, 0, 0, 0, 0, HERD_FIELD(1), 0),
+    HERD_RELATION(HERD_FIELD(1), 0, HERD_PLAIN, HERD_ABORT(GROUP)),
     /* milking: cow, grams */
-    HERD_RELATION(2, HERD_PROPAGATION(COW), HERD_PLAIN, 0, 0, 0, 0, 0, 0, 0, 0),
+    HERD_RELATION(0, 0, HERD_PROPAGATION(COW), HERD_PLAIN),
 };
 
 enum { RECORDS = 64, WORDS = HERD_TABLE_WORDS(RECORDS) };
@@ -27,7 +27,7 @@ enum { RECORDS = 64, WORDS = HERD_TABLE_WORDS(RECORDS) };
 static void must(const char *what, uint64_t answer)
 {
     if (answer != HERD_DONE) {
-        printf("%s: refused %" PRIu64 "\n", what, answer);
+        printf("%s: refused %" PRIu64 ": %s\n", what, answer, herd_answer_text(answer));
         exit(1);
     }
 }
@@ -35,7 +35,7 @@ static void must(const char *what, uint64_t answer)
 static herd_label insert(uint64_t *table, uint64_t *delta, size_t relation, uint64_t first, uint64_t second)
 {
     const uint64_t values[2] = {first, second};
-    size_t count = (size_t)FARM[HERD_BLOCK(relation)];
+    size_t count = (size_t)FARM[HERD_BLOCK(relation) + HERD_COUNT_WORD];
     herd_label label;
     must("insert", herd_insert(FARM, HERD_SCHEMA_WORDS, table, WORDS, delta, HERD_DELTA_WORDS, relation, values, count, &label));
     return label;
@@ -100,8 +100,8 @@ static void print_list(const char *name, const uint64_t *table)
         const uint64_t *block = FARM + HERD_BLOCK(record[HERD_RELATION_WORD]);
         herd_label label = record[HERD_LABEL_WORD];
         printf("%" PRIu64 " %" PRIu64 ".%" PRIu64, record[HERD_RELATION_WORD], HERD_COUNTER(label), HERD_REPLICA(label));
-        for (field = 1; field <= block[0]; field++)
-            print_value(block[field], values[field - 1]);
+        for (field = 0; field < block[HERD_COUNT_WORD]; field++)
+            print_value(block[HERD_KIND_WORDS + field], values[field]);
         printf("\n");
     }
 }
@@ -135,6 +135,10 @@ int main(void)
     static herd_delta delta;
     herd_label group, cow;
 
+    if (!herd_version_fits()) {
+        printf("the library is of version %" PRIu64 ", and the header of version %d\n", herd_version(), HERD_VERSION);
+        return 1;
+    }
     must("schema", herd_schema_check(FARM, HERD_SCHEMA_WORDS));
     must("start", herd_start(robot, WORDS, 1));
     must("start", herd_start(office, WORDS, 2));

@@ -48,6 +48,7 @@ fn find(
 }
 
 fn main() -> Result<(), Error> {
+    assert!(herd::version_fits(), "the linked library is of version {}", herd::version());
     let schema = FARM.build()?;
     let mut delta = Delta::new();
     let mut robot = Table::start([0; table_words(RECORDS)], 1)?;

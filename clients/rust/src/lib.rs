@@ -10,7 +10,9 @@
 //! - [`Table`] is started, edited and merged; each edit writes a [`Delta`], which is enough to bring
 //!   it to the other replicas.
 //! - [`Marks`] say which records are shown, and [`List`] reads them in order.
-//! - [`raw`] has the ten calls over plain slices and numbers.
+//! - [`words_to_bytes`] and [`words_from_bytes`] are for files and messages.
+//! - [`version_fits`] tells whether the linked library fits this crate; ask it at start-up.
+//! - [`raw`] has the calls over plain slices and numbers, [`layout`] the numbers of the words.
 //!
 //! The crate is `no_std` and needs no heap; storage is the caller's.
 //!
@@ -37,6 +39,7 @@
 //!         .build()
 //! }
 //!
+//! assert!(herd::version_fits());
 //! let schema = schema()?;
 //! let mut delta = Delta::new();
 //! let mut robot = Table::start([0; table_words(RECORDS)], 1)?;
@@ -57,65 +60,35 @@
 //!
 //! # Stack
 //!
-//! A call needs at most the stack that `include/herd.h` tells for it; on a target whose stack is
-//! smaller, call from a thread or task that has it.
+//! A call needs up to [`STACK`] bytes, whatever the size of the tables, and `include/herd.h` tells
+//! the number of each; where the stack is smaller, call from a thread or task that has it.
 
 #![no_std]
 #![deny(unsafe_code)]
 #![warn(missing_docs)]
 
+mod bytes;
 mod error;
 mod label;
+pub mod layout;
 mod list;
 #[allow(unsafe_code)]
 pub mod raw;
 mod schema;
 mod table;
+mod version;
 
+pub use bytes::{words_from_bytes, words_to_bytes, WORD_BYTES};
 pub use error::Error;
 pub use label::Label;
+pub use layout::{
+    table_words, DELTA_RECORDS, DELTA_WORDS, FIELDS, MOST_KEY_FIELDS, MOST_RECORDS, MOST_RELATIONS,
+    SCHEMA_WORDS,
+};
 pub use list::{List, Marks, Record};
-pub use schema::{Kind, Schema, SchemaBuilder};
+pub use schema::{Kind, Schema, SchemaBuilder, SchemaWords};
 pub use table::{Delta, Table};
+pub use version::{version, version_fits, VERSION};
 
-/// Fields of a record, and of a relation in the schema.
-pub const FIELDS: usize = 8;
-
-/// Relations of a schema.
-pub const MOST_RELATIONS: usize = 8;
-
-/// Fields of a key.
-pub const MOST_KEY_FIELDS: usize = 4;
-
-/// A relation's block of the schema: field count, kinds, two key masks, a zero.
-pub const BLOCK_WORDS: usize = FIELDS + 4;
-
-/// Words of a schema.
-pub const SCHEMA_WORDS: usize = 1 + MOST_RELATIONS * BLOCK_WORDS;
-
-/// Words of a table before its records.
-pub const HEADER_WORDS: usize = 16;
-
-/// Words of a record before its values: next, relation, label, flag.
-pub const HEAD_WORDS: usize = 4;
-
-const RELATION_WORD: usize = 1;
-
-const LABEL_WORD: usize = 2;
-
-/// Words of a record: the head, eight values, eight stamps.
-pub const RECORD_WORDS: usize = HEAD_WORDS + 2 * FIELDS;
-
-/// Records of the largest table.
-pub const MOST_RECORDS: usize = 4096;
-
-/// Records of a delta.
-pub const DELTA_RECORDS: usize = FIELDS + 1;
-
-/// Words of a delta.
-pub const DELTA_WORDS: usize = table_words(DELTA_RECORDS);
-
-/// Words of a table of N records.
-pub const fn table_words(records: usize) -> usize {
-    HEADER_WORDS + RECORD_WORDS * records
-}
+/// The stack that a call of the static library needs at most, in bytes, as `tools/stack` measures it.
+pub const STACK: usize = 119296;

@@ -1,6 +1,7 @@
 use crate::error::told;
+use crate::layout::{HEAD_WORDS, LABEL_WORD, RELATION_WORD};
 use crate::schema::{kinds, Kind};
-use crate::{raw, Error, Label, Schema, Table, HEAD_WORDS, LABEL_WORD, RELATION_WORD};
+use crate::{raw, Error, Label, Schema, Table};
 use core::fmt;
 use core::iter::FusedIterator;
 

@@ -1,4 +1,4 @@
-//! The ten calls over plain slices. The answer is the page's number, 0 for a call that was done.
+//! The calls over plain slices. The answer is the page's number, 0 for a call that was done.
 //!
 //! Every call takes any words and any lengths. These functions are for words that are not known to
 //! be a schema or a table; the types of this crate stand over them.
@@ -8,6 +8,7 @@ compile_error!("the static library herd is for targets with 64-bit pointers");
 
 mod c {
     extern "C" {
+        pub fn herd_version() -> u64;
         pub fn herd_schema_check(schema: *const u64, schema_words: usize) -> u64;
         pub fn herd_table_check(
             schema: *const u64,
@@ -82,6 +83,12 @@ mod c {
             first: *mut u64,
         ) -> u64;
     }
+}
+
+/// The version of the linked library.
+pub fn version() -> u64 {
+    // SAFETY: the call takes nothing.
+    unsafe { c::herd_version() }
 }
 
 /// Whether the words are a schema that is not broken: 0, 1 or 2.

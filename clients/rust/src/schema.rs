@@ -1,5 +1,8 @@
 use crate::error::told;
-use crate::{raw, Error, BLOCK_WORDS, FIELDS, MOST_RELATIONS, SCHEMA_WORDS};
+use crate::layout::{
+    block_word, COUNT_WORD, FIELDS, KEY_WORDS, KIND_WORDS, MOST_RELATIONS, SCHEMA_WORDS,
+};
+use crate::{raw, Error};
 
 const PLAIN: u64 = 1;
 const ABORT: u64 = 16;
@@ -40,7 +43,17 @@ impl Kind {
     }
 }
 
-/// A schema that is not broken, in 97 words of any storage.
+/// The storage of a schema that a [`SchemaBuilder`] made.
+#[derive(Clone, Copy, Debug, PartialEq, Eq)]
+pub struct SchemaWords([u64; SCHEMA_WORDS]);
+
+impl AsRef<[u64]> for SchemaWords {
+    fn as_ref(&self) -> &[u64] {
+        &self.0
+    }
+}
+
+/// A schema that is not broken, in [`SCHEMA_WORDS`] words of any storage.
 ///
 /// It comes from a [`SchemaBuilder`], or from words.
 ///
@@ -56,11 +69,11 @@ impl Kind {
 /// assert_eq!(schema.kind(1, 1), Some(Kind::Plain));
 ///
 /// assert_eq!(Schema::new([0; SCHEMA_WORDS]), Err(Error::SchemaBroken));
-/// assert_eq!(Schema::new([0; 96]), Err(Error::LengthOrIndex));
+/// assert_eq!(Schema::new([0; SCHEMA_WORDS - 1]), Err(Error::LengthOrIndex));
 /// # Ok::<(), Error>(())
 /// ```
 #[derive(Clone, Debug, PartialEq, Eq)]
-pub struct Schema<W = [u64; SCHEMA_WORDS]> {
+pub struct Schema<W = SchemaWords> {
     words: W,
 }
 
@@ -73,7 +86,7 @@ impl<W: AsRef<[u64]>> Schema<W> {
         Ok(Schema { words })
     }
 
-    /// The 97 words.
+    /// The words, as they are stored or sent.
     pub fn words(&self) -> &[u64] {
         self.words.as_ref()
     }
@@ -105,15 +118,15 @@ pub(crate) fn kinds(schema: &[u64], relation: usize) -> &[u64] {
     if !(1..=MOST_RELATIONS).contains(&relation) {
         return &[];
     }
-    let block = 1 + BLOCK_WORDS * (relation - 1);
-    let fields = schema.get(block).map_or(0, |count| *count as usize);
-    schema.get(block + 1..).and_then(|kinds| kinds.get(..fields)).unwrap_or(&[])
+    let block = block_word(relation);
+    let fields = schema.get(block + COUNT_WORD).map_or(0, |count| *count as usize);
+    schema.get(block + KIND_WORDS..).and_then(|kinds| kinds.get(..fields)).unwrap_or(&[])
 }
 
 /// Makes a schema: relations in their order, of each the fields and then its keys.
 ///
 /// A relation has the number of its place, from 1, and so has a field in its relation. Every step is
-/// a `const fn`. What has no place in a schema, as a ninth field or a third key, is refused by
+/// a `const fn`. What has no place in a schema, as a field too many or a third key, is refused by
 /// [`build`](SchemaBuilder::build).
 ///
 /// ```
@@ -185,13 +198,14 @@ impl SchemaBuilder {
             Kind::Plain => true,
             Kind::Abort(relation) | Kind::Propagation(relation) => relation <= MOST_RELATIONS,
         };
-        if !fits || self.relations == 0 || self.words[self.block()] == FIELDS as u64 {
+        if !fits || self.relations == 0 || self.words[self.block() + COUNT_WORD] == FIELDS as u64 {
             self.broken = true;
             return self;
         }
         let block = self.block();
-        self.words[block] += 1;
-        self.words[block + self.words[block] as usize] = kind.word();
+        let count = self.words[block + COUNT_WORD];
+        self.words[block + KIND_WORDS + count as usize] = kind.word();
+        self.words[block + COUNT_WORD] = count + 1;
         self
     }
 
@@ -211,7 +225,7 @@ impl SchemaBuilder {
             self.broken = true;
             return self;
         }
-        let first = self.block() + 1 + FIELDS;
+        let first = self.block() + KEY_WORDS;
         if self.words[first] == 0 {
             self.words[first] = mask;
         } else if self.words[first + 1] == 0 {
@@ -229,12 +243,12 @@ impl SchemaBuilder {
         if self.broken {
             return Err(Error::SchemaBroken);
         }
-        Schema::new(self.words)
+        Schema::new(SchemaWords(self.words))
     }
 
     /// The word at which the block of the last relation begins.
     const fn block(&self) -> usize {
-        1 + BLOCK_WORDS * (self.relations - 1)
+        block_word(self.relations)
     }
 }
 

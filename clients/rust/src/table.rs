@@ -1,8 +1,11 @@
 use crate::error::told;
+use crate::layout::{
+    CLOCK_WORD, DELTA_WORDS, FIELDS, HEADER_WORDS, RECORD_WORDS, REPLICA_WORD, USED_WORD,
+};
 use crate::list::List;
-use crate::{raw, Error, Label, Marks, Schema, DELTA_WORDS, FIELDS, HEADER_WORDS, RECORD_WORDS};
+use crate::{raw, Error, Label, Marks, Schema};
 
-/// What an edit changed: a table of up to nine records, to be merged into the tables of others.
+/// What an edit changed: a small table, to be merged into the tables of others.
 ///
 /// An edit writes it whole, so one delta can be lent to each edit in turn. A refused edit leaves it
 /// as it was.
@@ -15,8 +18,15 @@ impl Delta {
         Delta([0; DELTA_WORDS])
     }
 
-    /// The 196 words.
-    pub const fn words(&self) -> &[u64; DELTA_WORDS] {
+    /// The delta of these words, as they were stored or received. The merge refuses what is none.
+    ///
+    /// Refusal: [`Error::LengthOrIndex`].
+    pub fn from_words(words: &[u64]) -> Result<Delta, Error> {
+        words.try_into().map(Delta).map_err(|_| Error::LengthOrIndex)
+    }
+
+    /// The words, as they are stored or sent.
+    pub const fn words(&self) -> &[u64] {
         &self.0
     }
 }
@@ -24,12 +34,6 @@ impl Delta {
 impl Default for Delta {
     fn default() -> Delta {
         Delta::new()
-    }
-}
-
-impl From<[u64; DELTA_WORDS]> for Delta {
-    fn from(words: [u64; DELTA_WORDS]) -> Delta {
-        Delta(words)
     }
 }
 
@@ -107,17 +111,17 @@ impl<W: AsRef<[u64]>> Table<W> {
 
     /// The replica number.
     pub fn replica(&self) -> u64 {
-        self.word(0)
+        self.word(REPLICA_WORD)
     }
 
     /// The clock: the largest counter that the table has seen.
     pub fn clock(&self) -> u64 {
-        self.word(1)
+        self.word(CLOCK_WORD)
     }
 
     /// The number of used records, shown or not. The record of an insertion has this index.
     pub fn used(&self) -> usize {
-        self.word(2) as usize
+        self.word(USED_WORD) as usize
     }
 
     /// The number of records that the table can hold, N.
@@ -125,7 +129,8 @@ impl<W: AsRef<[u64]>> Table<W> {
         self.words().len().saturating_sub(HEADER_WORDS) / RECORD_WORDS
     }
 
-    /// The eight values of a record, a part of the table; those above the relation's fields are 0.
+    /// The values of a record, one for each of [`FIELDS`](crate::FIELDS), a part of the table; those
+    /// above the relation's fields are 0.
     ///
     /// Refusal: [`Error::LengthOrIndex`].
     pub fn values(&self, index: usize) -> Result<&[u64], Error> {
@@ -174,7 +179,7 @@ impl<W: AsRef<[u64]> + AsMut<[u64]>> Table<W> {
     ///
     /// assert_eq!(Table::start([0; table_words(8)], 1)?.capacity(), 8);
     /// assert_eq!(Table::start([0; table_words(8)], 256), Err(Error::RelationOrReplica));
-    /// assert_eq!(Table::start([0; 17], 1), Err(Error::LengthOrIndex));
+    /// assert_eq!(Table::start([0; table_words(8) + 1], 1), Err(Error::LengthOrIndex));
     /// # Ok::<(), Error>(())
     /// ```
     pub fn start(mut words: W, replica: u64) -> Result<Table<W>, Error> {

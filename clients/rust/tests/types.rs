@@ -1,9 +1,11 @@
 //! The types over the calls: the table of cases, the builder, the list, and random fleets through
 //! the types against the second implementation.
 
+use herd::layout::HEADER_WORDS;
 use herd::{
-    table_words, Delta, Error, Kind, Label, Marks, Schema, SchemaBuilder, Table, DELTA_WORDS,
-    SCHEMA_WORDS,
+    table_words, words_from_bytes, words_to_bytes, Delta, Error, Kind, Label, Marks, Schema,
+    SchemaBuilder, Table, DELTA_WORDS, FIELDS, MOST_RECORDS, MOST_RELATIONS, SCHEMA_WORDS,
+    WORD_BYTES,
 };
 use second::cases;
 use second::random::{self, Random};
@@ -82,12 +84,13 @@ fn the_builder_makes_every_random_schema() {
 fn the_builder_refuses_what_has_no_place() {
     let one = SchemaBuilder::new().relation().plain();
     let mut wide = SchemaBuilder::new().relation();
-    for _ in 0..8 {
+    for _ in 0..FIELDS {
         wide = wide.plain();
     }
-    assert!(wide.key(&[1, 2, 3, 4]).key(&[5, 6, 7, 8]).build().is_ok());
+    let last = [FIELDS - 3, FIELDS - 2, FIELDS - 1, FIELDS];
+    assert!(wide.key(&[1, 2, 3, 4]).key(&last).build().is_ok());
     let mut many = SchemaBuilder::new();
-    for _ in 0..8 {
+    for _ in 0..MOST_RELATIONS {
         many = many.relation().plain();
     }
     assert!(many.build().is_ok());
@@ -102,7 +105,7 @@ fn the_builder_refuses_what_has_no_place() {
         one.key(&[]),
         one.key(&[0]),
         one.key(&[2]),
-        one.key(&[9]),
+        one.key(&[FIELDS + 1]),
         one.key(&[usize::MAX]),
         one.key(&[1]).key(&[1]).key(&[1]),
         wide.plain(),
@@ -144,13 +147,12 @@ fn words_that_are_no_table_are_refused() {
     let before = table.clone();
     assert_eq!(table.merge(&schema, &[0; 3]), Err(Error::LengthOrIndex));
     assert_eq!(table.merge(&schema, &Delta::new()), Err(Error::OtherNotWellFormed));
-    assert_eq!(
-        table.merge(&schema, &Delta::from([1; DELTA_WORDS])),
-        Err(Error::OtherNotWellFormed)
-    );
+    let damaged = Delta::from_words(&[1; DELTA_WORDS]).unwrap();
+    assert_eq!(table.merge(&schema, &damaged), Err(Error::OtherNotWellFormed));
     assert_eq!(table, before);
-    assert_eq!(Table::open(&schema, [0; 3]), Err(Error::LengthOrIndex));
-    assert_eq!(Table::start(vec![0; table_words(4097)], 1), Err(Error::LengthOrIndex));
+    assert_eq!(Delta::from_words(&[0; DELTA_WORDS - 1]), Err(Error::LengthOrIndex));
+    assert_eq!(Table::open(&schema, [0; HEADER_WORDS - 1]), Err(Error::LengthOrIndex));
+    assert_eq!(Table::start(vec![0; table_words(MOST_RECORDS + 1)], 1), Err(Error::LengthOrIndex));
     assert_eq!(Schema::new([1; SCHEMA_WORDS]), Err(Error::SchemaBroken));
     assert_eq!(table.values(0), Err(Error::LengthOrIndex));
     assert_eq!(table.values(3), Err(Error::LengthOrIndex));
@@ -185,12 +187,53 @@ fn labels_keep_their_limits() {
 
 #[test]
 fn every_number_has_its_error() {
-    for number in 1..=13 {
-        let error = Error::from_number(number).unwrap();
+    for (number, error) in (1..).zip(Error::ALL) {
         assert_eq!(error.number(), number);
-        assert!(!error.to_string().is_empty());
+        assert_eq!(Error::from_number(number), Some(*error));
     }
-    assert_eq!((Error::from_number(0), Error::from_number(14)), (None, None));
+    assert_eq!(Error::from_number(0), None);
+    // Numbers of no error, as a later library may answer them.
+    for number in [Error::ALL.len() as u64 + 1, u64::MAX] {
+        let error = Error::from_number(number).unwrap();
+        assert_eq!(error, Error::Other(number));
+        assert_eq!(
+            (error.number(), error.to_string()),
+            (number, "no answer of this version".into())
+        );
+    }
+}
+
+#[test]
+fn every_error_has_its_text() {
+    let mut texts: Vec<String> = Error::ALL.iter().map(Error::to_string).collect();
+    texts.sort();
+    texts.dedup();
+    assert_eq!(texts.len(), Error::ALL.len());
+}
+
+#[test]
+fn the_library_fits_the_crate() {
+    assert!(herd::version_fits());
+    assert_eq!(herd::version(), herd::VERSION);
+}
+
+#[test]
+fn words_go_to_bytes_and_back() {
+    let table = case(12);
+    let words = table.words();
+    let mut bytes = vec![0; words.len() * WORD_BYTES];
+    words_to_bytes(words, &mut bytes).unwrap();
+    assert_eq!(bytes, cases::bytes_of(words));
+    let mut again = vec![0; words.len()];
+    words_from_bytes(&bytes, &mut again).unwrap();
+    assert_eq!(again, words);
+    for length in [0, bytes.len() - 1, bytes.len() - WORD_BYTES, bytes.len() + 1] {
+        let mut other = vec![7; length];
+        assert_eq!(words_to_bytes(words, &mut other), Err(Error::LengthOrIndex));
+        assert_eq!(other, vec![7; length]);
+        assert_eq!(words_from_bytes(&other, &mut again), Err(Error::LengthOrIndex));
+        assert_eq!(again, words);
+    }
 }
 
 /// One random edit through the types, with what the second implementation does on the same words.
@@ -201,7 +244,7 @@ fn edit(
     delta: &mut Delta,
 ) {
     let edit = random_edit(random, schema.words(), own.words());
-    let (mut words, mut changes) = (own.words().to_vec(), *delta.words());
+    let (mut words, mut changes) = (own.words().to_vec(), delta.words().to_vec());
     let expected = edit.run(schema.words(), &mut words, &mut changes);
     let told = match edit {
         Edit::Insertion { relation, values } => {
@@ -214,7 +257,7 @@ fn edit(
     };
     assert_eq!((told.map_or_else(Error::number, |_| 0), told.unwrap_or(0)), expected);
     assert_eq!(own.words(), words);
-    assert_eq!(delta.words(), &changes);
+    assert_eq!(delta.words(), changes);
 }
 
 fn listed<W: AsRef<[u64]>>(schema: &Schema<Vec<u64>>, table: &Table<W>) -> String {

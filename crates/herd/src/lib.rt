@@ -1,6 +1,25 @@
-// The calls of document 01 as C functions. A slice is a pointer and a length; the answer is the page's number. No rule stands here.
+// The calls of document 01 as C functions, and the version. A slice is a pointer and a length; the answer is the page's number. No rule
+// stands here.
 ghost use mathlib.Core.Path.{_≡_};
 ghost use Rattle.model.specs.Calls.{schemaNumber, tableNumber, startNumber, startTable, valuesNumber, valuesFirst, mergeNumber, mergeTable, marksNumber, marksCount, marksMarks, walkNumber, walkGiven, walkPlace, insertionNumber, insertionLabel, insertionTable, insertionDelta, updateNumber, updateTable, updateDelta, deletionNumber, deletionTable, deletionDelta};
+ghost use Rattle.herd.specs.Version.{version};
+
+// The parts of the version. CHANGELOG.md tells when each one rises.
+const MAJOR: u64 = 1;
+
+const MINOR: u64 = 0;
+
+const PATCH: u64 = 0;
+
+const VERSION: u64 = MAJOR * 10_000 + MINOR * 100 + PATCH;
+
+// The version of the linked library, which a caller compares with that of its header.
+#[no_mangle]
+pub extern "C" fn herd_version() -> u64
+    ensures { λ r. ⌜ r ≡ version ⌝ }
+{
+    VERSION
+}
 
 // Schema check for C: the answer's number.
 #[no_mangle]

@@ -1,8 +1,15 @@
 //! Calls on damaged inputs. They work on copies, so that the fleet goes on with its own tables.
 
 use crate::driver::Driver;
+use herd::layout::{
+    block_word, table_words, DELTA_WORDS, FIELDS, HEADER_WORDS, MOST_RECORDS, RECORD_WORDS,
+    USED_WORD,
+};
 use second::random::Random;
 use second::vectors::{random_edit, Edit};
+
+/// The words of the first two relations of a schema.
+const TWO_RELATIONS: usize = block_word(3);
 
 /// Words that are wrong at most places.
 const WRONG: [u64; 12] =
@@ -33,16 +40,25 @@ fn spoil(random: &mut Random, words: &mut [u64]) {
 
 /// Spoils a word of the header or of a used record.
 fn spoil_table(random: &mut Random, words: &mut [u64]) {
-    let used = words.get(2).copied().unwrap_or(0).min(12) as usize;
-    let end = herd::table_words(used).min(words.len());
-    let end = if random.chance(1, 4) { end.min(herd::HEADER_WORDS) } else { end };
+    let used = words.get(USED_WORD).copied().unwrap_or(0).min(12) as usize;
+    let end = table_words(used).min(words.len());
+    let end = if random.chance(1, 4) { end.min(HEADER_WORDS) } else { end };
     spoil(random, &mut words[..end]);
 }
 
 fn resize(random: &mut Random, words: &mut Vec<u64>) {
     let length = words.len();
-    let lengths =
-        [0, 1, 15, 16, 17, length.saturating_sub(1), length + 1, length + 19, length + 20];
+    let lengths = [
+        0,
+        1,
+        HEADER_WORDS - 1,
+        HEADER_WORDS,
+        HEADER_WORDS + 1,
+        length.saturating_sub(1),
+        length + 1,
+        length + RECORD_WORDS - 1,
+        length + RECORD_WORDS,
+    ];
     words.resize(random.pick(&lengths), 0);
 }
 
@@ -54,23 +70,33 @@ impl Damage {
             table: table.to_vec(),
             other,
             edit: random_edit(random, schema, table),
-            delta_words: herd::DELTA_WORDS,
+            delta_words: DELTA_WORDS,
             more_marks: 0,
         };
         for _ in 0..1 + random.below(2) {
             match random.below(12) {
-                0 => spoil(random, &mut damage.schema[..25]),
+                0 => spoil(random, &mut damage.schema[..TWO_RELATIONS]),
                 1 => spoil(random, &mut damage.schema),
                 2 => resize(random, &mut damage.schema),
                 3..=5 => spoil_table(random, &mut damage.table),
                 6 => resize(random, &mut damage.table),
                 7 => spoil_table(random, &mut damage.other),
                 8 => resize(random, &mut damage.other),
-                9 => damage.delta_words = random.pick(&[0, 1, 16, 195, 197, 216]),
+                9 => {
+                    let lengths = [
+                        0,
+                        1,
+                        HEADER_WORDS,
+                        DELTA_WORDS - 1,
+                        DELTA_WORDS + 1,
+                        DELTA_WORDS + RECORD_WORDS,
+                    ];
+                    damage.delta_words = random.pick(&lengths);
+                }
                 10 => damage.more_marks = random.pick(&[-1, 1, -1_000, 7]),
                 _ => {}
             }
-            if damage.schema.len() < 25 {
+            if damage.schema.len() < TWO_RELATIONS {
                 break;
             }
         }
@@ -80,7 +106,7 @@ impl Damage {
     pub fn run(self, driver: &mut Driver, random: &mut Random) {
         let schema = &self.schema;
         let mut table = self.table.clone();
-        let records = (table.len().max(16) - 16) / herd::RECORD_WORDS;
+        let records = table.len().saturating_sub(HEADER_WORDS) / RECORD_WORDS;
         let count = (records as i64 + self.more_marks).max(0) as usize;
         match random.below(10) {
             0 => {
@@ -101,7 +127,8 @@ impl Damage {
             5 | 6 => {
                 let marks: Vec<u8> =
                     (0..count).map(|_| random.pick(&[0, 1, 1, 1, 2, 255])).collect();
-                let mut place = random.pick(&[0, 0, 1, 2, 5, 12, 13, 4_097, u64::MAX]);
+                let mut place =
+                    random.pick(&[0, 0, 1, 2, 5, 12, 13, MOST_RECORDS as u64 + 1, u64::MAX]);
                 driver.walk(schema, &table, &marks, &mut place);
             }
             _ => self.edit(driver, random, &mut table),
@@ -114,7 +141,7 @@ impl Damage {
             Edit::Insertion { relation, values } => {
                 let mut values = values.clone();
                 if random.chance(1, 6) {
-                    values.resize(random.below(12) as usize, 0);
+                    values.resize(random.below(FIELDS as u64 + 4) as usize, 0);
                 }
                 driver.insert(&self.schema, table, &mut delta, *relation as usize, &values);
             }

@@ -1,6 +1,7 @@
 //! Each call on the library and on `second`, compared: the answer, what comes back, and every word.
 
 use crate::lent::{Lending, Lent};
+use herd::layout::{record_word, HEAD_WORDS};
 use herd::raw;
 use second::random::Random;
 use second::vectors::given;
@@ -8,7 +9,7 @@ use second::{number, Answer};
 use std::collections::BTreeMap;
 
 /// The functions, and the numbers that each may answer.
-pub const ANSWERS: [(&str, &[u64]); 10] = [
+pub const ANSWERS: &[(&str, &[u64])] = &[
     ("schema_check", &[0, 1, 2]),
     ("table_check", &[0, 1, 2, 3]),
     ("start", &[0, 1, 5]),
@@ -48,8 +49,8 @@ impl Driver {
         let mut text = format!("{} calls\n", self.calls());
         for (function, answers) in ANSWERS {
             text.push_str(&format!("{function:<13}"));
-            for answer in answers {
-                let count = self.counts.get(&(function, *answer)).copied().unwrap_or(0);
+            for answer in *answers {
+                let count = self.counts.get(&(*function, *answer)).copied().unwrap_or(0);
                 text.push_str(&format!(" {answer}:{count}"));
             }
             text.push('\n');
@@ -271,7 +272,7 @@ impl Driver {
             assert_eq!(first, 0);
         } else {
             assert_eq!(&table[first as usize..first as usize + herd::FIELDS], expected);
-            assert_eq!(first as usize, herd::table_words(index - 1) + 4);
+            assert_eq!(first as usize, record_word(index) + HEAD_WORDS);
         }
         (self.count("values", answer, expected.is_empty() as u64), first)
     }

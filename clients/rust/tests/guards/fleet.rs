@@ -2,6 +2,7 @@
 
 use crate::damage::Damage;
 use crate::driver::Driver;
+use herd::layout::{RECORD_WORDS, USED_WORD};
 use second::cases::{herd, record, COW, GROUP};
 use second::label::{label_of, LARGEST_COUNTER, LARGEST_FLAG};
 use second::random::{self, Random, Shape};
@@ -41,11 +42,11 @@ fn held(random: &mut Random) -> Vec<u64> {
     let groups = [label_of(1, 1), label_of(2, 1), label_of(3, 1)];
     let mut records = Vec::new();
     for (at, group) in groups.iter().enumerate() {
-        let flag = random.pick(&[0, 1, 65_533, 65_535, 65_535]);
+        let flag = random.pick(&[0, 1, LARGEST_FLAG - 2, LARGEST_FLAG, LARGEST_FLAG]);
         records.push(record(GROUP, *group, flag, &[at as u64]));
     }
     for at in 0..3 + random.below(4) {
-        let flag = random.pick(&[0, 0, 0, 2, 1, 65_534]);
+        let flag = random.pick(&[0, 0, 0, 2, 1, LARGEST_FLAG - 1]);
         let values = [40 + at, random.pick(&[groups[0], groups[0], groups[1], groups[2], 0])];
         records.push(record(COW, label_of(4 + at, 1 + at % 3), flag, &values));
     }
@@ -136,7 +137,7 @@ impl Fleet {
     /// The marks, then the walk from the beginning to the end and a step more.
     fn list(&mut self, driver: &mut Driver, at: usize) {
         let table = &self.tables[at];
-        let mut marks = driver.any_bytes((table.len() - words(0)) / herd::RECORD_WORDS);
+        let mut marks = driver.any_bytes((table.len() - words(0)) / RECORD_WORDS);
         let (answer, shown) = driver.marks(&self.schema, table, &mut marks);
         assert_eq!(answer, 0);
         let mut place = 0;
@@ -160,7 +161,7 @@ impl Fleet {
                 driver.table_check(&self.schema, &self.tables[at]);
             }
             2 | 3 => {
-                let used = self.tables[at][2];
+                let used = self.tables[at][USED_WORD];
                 let index = random.pick(&[0, 1, used, used + 1, used / 2, u64::MAX]);
                 driver.values(&self.tables[at], index as usize);
             }

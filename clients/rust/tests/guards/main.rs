@@ -21,12 +21,12 @@ fn fleets_between_guards() {
     }
     print!("{}", driver.report());
     assert!(driver.calls() >= 30_000);
-    for answer in 1..=13 {
-        assert!(driver.answered(answer) >= 10, "answer {answer}");
+    for error in herd::Error::ALL {
+        assert!(driver.answered(error.number()) >= 10, "{error}");
     }
     for (function, answers) in ANSWERS {
-        for answer in answers {
-            let count = driver.counts.get(&(function, *answer)).copied().unwrap_or(0);
+        for answer in *answers {
+            let count = driver.counts.get(&(*function, *answer)).copied().unwrap_or(0);
             assert!(count >= 10, "answer {answer} of {function}: {count}");
         }
     }
