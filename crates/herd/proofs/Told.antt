@@ -2,10 +2,10 @@
 -- Assumes nothing.
 use Prim.Native.Nat.{ℕ}
 use mathlib.Core.Path.{_≡_, _∙_, ap}
-use Rattle.answers.specs.Told.{Told, told}
+use Rattle.answers.specs.Told.{Told}
 
-pub told-number : (r : Told) (n v x : ℕ) → r ≡ told n v → x ≡ r .number → x ≡ n
-told-number r n v x e h = h ∙ ap (λ (y : Told). y .number) e
+pub told-number : {r q : Told} {x : ℕ} → r ≡ q → x ≡ r .number → x ≡ q .number
+told-number e h = h ∙ ap (λ (y : Told). y .number) e
 
-pub told-value : (r : Told) (n v x : ℕ) → r ≡ told n v → x ≡ r .value → x ≡ v
-told-value r n v x e h = h ∙ ap (λ (y : Told). y .value) e
+pub told-value : {r q : Told} {x : ℕ} → r ≡ q → x ≡ r .value → x ≡ q .value
+told-value e h = h ∙ ap (λ (y : Told). y .value) e

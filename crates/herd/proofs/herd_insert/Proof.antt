@@ -21,7 +21,7 @@ same-length-2 : tie.Need-same-length-2
 same-length-2 c = search needs
 
 returns : tie.Need-returns
-returns c = (told-number _ _ _ _ (c .before .before .before .before .before .before .insertion .ensures .0) (c .number .ensures), (told-value _ _ _ _ (c .before .before .before .before .before .before .insertion .ensures .0) (c .before .label .ensures), c .before .before .before .before .before .before .insertion .ensures .1))
+returns c = (told-number (c .before .before .before .before .before .before .insertion .ensures .0) (c .number .ensures), (told-value (c .before .before .before .before .before .before .insertion .ensures .0) (c .before .label .ensures), c .before .before .before .before .before .before .insertion .ensures .1))
 
 pub herd-insert-spec : {M : Type 1} → statement M
 herd-insert-spec =

@@ -18,7 +18,7 @@ same-length : tie.Need-same-length
 same-length c = search needs
 
 returns : tie.Need-returns
-returns c = (told-number _ _ _ _ (c .before .before .before .before .marks .ensures .0) (c .number .ensures), (told-value _ _ _ _ (c .before .before .before .before .marks .ensures .0) (c .before .count .ensures), c .before .before .before .before .marks .ensures .1))
+returns c = (told-number (c .before .before .before .before .marks .ensures .0) (c .number .ensures), (told-value (c .before .before .before .before .marks .ensures .0) (c .before .count .ensures), c .before .before .before .before .marks .ensures .1))
 
 pub herd-marks-spec : {M : Type 1} → statement M
 herd-marks-spec =

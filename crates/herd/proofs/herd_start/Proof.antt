@@ -15,7 +15,7 @@ same-length : tie.Need-same-length
 same-length c = search needs
 
 returns : tie.Need-returns
-returns c = (told-number _ _ _ _ (c .before .before .before .start .ensures .0) (c .number .ensures), c .before .before .before .start .ensures .1)
+returns c = (told-number (c .before .before .before .start .ensures .0) (c .number .ensures), c .before .before .before .start .ensures .1)
 
 pub herd-start-spec : {M : Type 1} → statement M
 herd-start-spec = tie.close (tie.spec start-requires number-requires same-length returns)

@@ -18,7 +18,7 @@ same-length-2 : tie.Need-same-length-2
 same-length-2 c = search needs
 
 returns : tie.Need-returns
-returns c = (told-number _ _ _ _ (c .before .before .before .before .before .update .ensures .0) (c .number .ensures), c .before .before .before .before .before .update .ensures .1)
+returns c = (told-number (c .before .before .before .before .before .update .ensures .0) (c .number .ensures), c .before .before .before .before .before .update .ensures .1)
 
 pub herd-update-spec : {M : Type 1} → statement M
 herd-update-spec =

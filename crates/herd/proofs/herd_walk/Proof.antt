@@ -15,7 +15,7 @@ number-requires : tie.Need-number-requires
 number-requires c κs = search needs
 
 returns : tie.Need-returns
-returns c = (told-number _ _ _ _ (c .before .before .advance .ensures .0) (c .number .ensures), (told-value _ _ _ _ (c .before .before .advance .ensures .0) (c .before .index .ensures), c .before .before .advance .ensures .1))
+returns c = (told-number (c .before .before .advance .ensures .0) (c .number .ensures), (told-value (c .before .before .advance .ensures .0) (c .before .index .ensures), c .before .before .advance .ensures .1))
 
 pub herd-walk-spec : {M : Type 1} → statement M
 herd-walk-spec = tie.close (tie.spec advance-requires index-requires number-requires returns)
