@@ -14,6 +14,7 @@ pub mod label;
 pub mod list;
 pub mod merge;
 pub mod random;
+mod rules;
 pub mod schema;
 pub mod shown;
 pub mod table;

@@ -1,5 +1,6 @@
 //! The schema: 97 words.
 
+use crate::rules::{holds, rule, Rule};
 use crate::{need, Answer, Refusal};
 
 pub const WORDS: usize = 97;
@@ -55,20 +56,23 @@ impl Schema {
 }
 
 fn read_kind(word: u64, relations: u64) -> Option<Kind> {
+    let most = |by: Rule| if rule(by) { relations } else { RELATIONS as u64 };
     if word == 1 {
         Some(Kind::Plain)
-    } else if 17 <= word && word <= 16 + relations {
+    } else if 17 <= word && word <= 16 + most(Rule::AbortWithinRelations) {
         Some(Kind::Abort(word - 16))
-    } else if 33 <= word && word <= 32 + relations {
+    } else if 33 <= word && word <= 32 + most(Rule::PropagationWithinRelations) {
         Some(Kind::Propagation(word - 32))
-    } else {
+    } else if rule(Rule::KnownKind) {
         None
+    } else {
+        Some(Kind::Plain)
     }
 }
 
 fn read_key(mask: u64, fields: usize) -> Option<Vec<usize>> {
-    let within = mask < 1 << fields;
-    if within && mask.count_ones() <= LARGEST_KEY {
+    let within = holds(Rule::KeyWithinFields, mask < 1 << fields);
+    if within && holds(Rule::MostKeyFields, mask.count_ones() <= LARGEST_KEY) {
         Some((0..fields).filter(|field| mask >> field & 1 == 1).collect())
     } else {
         None
@@ -76,15 +80,17 @@ fn read_key(mask: u64, fields: usize) -> Option<Vec<usize>> {
 }
 
 fn read_block(block: &[u64], relations: u64) -> Option<Relation> {
-    if block[0] < 1 || block[0] > FIELDS as u64 {
+    let some = holds(Rule::SomeField, 1 <= block[0]);
+    if !some || !holds(Rule::MostFields, block[0] <= FIELDS as u64) {
         return None;
     }
-    let fields = block[0] as usize;
+    let fields = block[0].min(FIELDS as u64) as usize;
     let mut kinds = Vec::new();
     for field in 0..fields {
         kinds.push(read_kind(block[1 + field], relations)?);
     }
-    if block[1 + fields..9].iter().any(|word| *word != 0) || block[11] != 0 {
+    let above = block[1 + fields..9].iter().all(|word| *word == 0);
+    if !holds(Rule::KindsAboveFields, above) || !holds(Rule::LastWordOfBlock, block[11] == 0) {
         return None;
     }
     let mut keys = Vec::new();
@@ -99,16 +105,19 @@ fn read_block(block: &[u64], relations: u64) -> Option<Relation> {
 
 /// The schema that 97 words tell, if they are not broken.
 pub fn read(words: &[u64]) -> Option<Schema> {
-    if words.len() != WORDS || words[0] < 1 || words[0] > RELATIONS as u64 {
+    if words.len() != WORDS
+        || !holds(Rule::SomeRelation, 1 <= words[0])
+        || !holds(Rule::MostRelations, words[0] <= RELATIONS as u64)
+    {
         return None;
     }
-    let count = words[0] as usize;
+    let count = words[0].min(RELATIONS as u64);
     let mut relations = Vec::new();
     for number in 0..RELATIONS {
         let block = &words[1 + BLOCK * number..1 + BLOCK * (number + 1)];
-        if number < count {
-            relations.push(read_block(block, words[0])?);
-        } else if block.iter().any(|word| *word != 0) {
+        if (number as u64) < count {
+            relations.push(read_block(block, count)?);
+        } else if !holds(Rule::BlocksAboveRelations, block.iter().all(|word| *word == 0)) {
             return None;
         }
     }

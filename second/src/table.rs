@@ -1,6 +1,7 @@
 //! The table: 16 + 20N words.
 
 use crate::label::{self, Register};
+use crate::rules::{holds, rule, Rule};
 use crate::schema::{self, Kind, Schema};
 use crate::{need, Answer, Refusal};
 use std::collections::BTreeMap;
@@ -105,32 +106,38 @@ pub fn is_place(table: &[u64], place: u64) -> bool {
 }
 
 fn read_register(kind: Kind, value: u64, stamp: u64, clock: u64) -> Option<Register> {
-    if !label::is_label_or_none(stamp) || label::counter(stamp) > clock {
-        return None;
+    let stamp_good = holds(Rule::Stamp, label::is_label_or_none(stamp))
+        && holds(Rule::ClockOverStamps, label::counter(stamp) <= clock)
+        && holds(Rule::ValueUnderNone, stamp != label::NONE || value == 0);
+    let value_good = kind == Kind::Plain
+        || holds(Rule::Reference, label::is_label_or_none(value))
+            && holds(Rule::ClockOverReferences, label::counter(value) <= clock);
+    if stamp_good && value_good {
+        Some(Register { value, stamp })
+    } else {
+        None
     }
-    if stamp == label::NONE && value != 0 {
-        return None;
-    }
-    if kind != Kind::Plain {
-        if !label::is_label_or_none(value) || label::counter(value) > clock {
-            return None;
-        }
-    }
-    Some(Register { value, stamp })
 }
 
 fn read_record(schema: &Schema, words: &[u64], clock: u64) -> Option<Record> {
     let (relation, name, flag) = (words[1], words[2], words[3]);
-    let kinds = &schema.relation(relation)?.kinds;
-    if !label::is_label(name) || label::counter(name) > clock || flag > label::LARGEST_FLAG {
+    let kinds: &[Kind] = match schema.relation(relation) {
+        Some(of) => &of.kinds,
+        None if rule(Rule::ChainsAboveRelations) => return None,
+        None => &[],
+    };
+    if !holds(Rule::RecordLabel, label::is_label(name))
+        || !holds(Rule::ClockOverLabels, label::counter(name) <= clock)
+        || !holds(Rule::FlagRange, flag <= label::LARGEST_FLAG)
+    {
         return None;
     }
     let mut registers = Vec::new();
     for (field, kind) in kinds.iter().enumerate() {
         registers.push(read_register(*kind, words[4 + field], words[12 + field], clock)?);
     }
-    let unused = kinds.len()..schema::FIELDS;
-    if unused.into_iter().any(|field| words[4 + field] != 0 || words[12 + field] != 0) {
+    let zero = |from: usize| (kinds.len()..schema::FIELDS).all(|field| words[from + field] == 0);
+    if !holds(Rule::UnusedValues, zero(4)) || !holds(Rule::UnusedStamps, zero(12)) {
         return None;
     }
     Some(Record { relation, label: name, flag, registers })
@@ -144,33 +151,42 @@ fn chains_hold(words: &[u64], records: &[Record]) -> bool {
         let mut before = 0;
         while index != 0 {
             if index > records.len() as u64 {
-                return false;
+                if rule(Rule::NoIndexAbove) {
+                    return false;
+                }
+                break;
             }
             let at = index as usize - 1;
             let record = &records[at];
-            if record.relation != relation as u64 || record.label <= before {
+            let rising = holds(Rule::RisingLabels, record.label >= before)
+                && holds(Rule::StrictlyRising, record.label != before);
+            if !rising || !holds(Rule::ChainOfRelation, record.relation == relation as u64) {
                 return false;
             }
+            // Chains that hold more than all records hold one twice; a ring would not end.
             held += 1;
+            if held > records.len() {
+                return false;
+            }
             before = record.label;
             index = words[HEADER + RECORD * at];
         }
     }
-    held == records.len()
+    holds(Rule::OnAChain, held == records.len())
 }
 
 /// The table that the words tell, if they have a right length and are well-formed.
 pub fn read(schema: &Schema, words: &[u64]) -> Option<Table> {
     let capacity = capacity_of(words.len())?;
     let (replica, clock, used) = (words[0], words[1], words[2]);
-    if replica < 1 || replica > label::LARGEST_REPLICA || clock > label::LARGEST_COUNTER {
-        return None;
-    }
-    if used > capacity as u64 || words[3] != 0 || words[12..16].iter().any(|word| *word != 0) {
-        return None;
-    }
-    let end = HEADER + RECORD * used as usize;
-    if words[end..].iter().any(|word| *word != 0) {
+    let header = holds(Rule::SomeReplica, 1 <= replica)
+        && holds(Rule::MostReplica, replica <= label::LARGEST_REPLICA)
+        && holds(Rule::ClockRange, clock <= label::LARGEST_COUNTER)
+        && holds(Rule::UsedWithinCapacity, used <= capacity as u64)
+        && holds(Rule::HeaderZero, words[3] == 0)
+        && holds(Rule::HeaderEnd, words[12..16].iter().all(|word| *word == 0));
+    let end = HEADER + RECORD * (used as usize).min(capacity);
+    if !header || !holds(Rule::WordsAboveUsed, words[end..].iter().all(|word| *word == 0)) {
         return None;
     }
     let mut records = Vec::new();
@@ -199,7 +215,7 @@ pub fn table_check(schema: &[u64], table: &[u64]) -> Answer<()> {
 pub fn start(table: &mut [u64], replica: u64) -> Answer<()> {
     need(capacity_of(table.len()).is_some(), Refusal::LengthOrIndex)?;
     let replica_fits = 1 <= replica && replica <= label::LARGEST_REPLICA;
-    need(replica_fits, Refusal::RelationOrReplica)?;
+    need(holds(Rule::StartReplica, replica_fits), Refusal::RelationOrReplica)?;
     table.fill(0);
     table[0] = replica;
     Ok(())

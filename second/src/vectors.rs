@@ -5,6 +5,7 @@
 mod edges;
 mod fleet;
 mod generate;
+mod redoing;
 mod stream;
 
 pub use fleet::{fleet_comparisons, Fleet};
@@ -121,7 +122,7 @@ pub const SHAPES: [Shape; 26] = [
 ];
 
 /// The names of the categories, from category 1 on.
-pub const CATEGORIES: [&str; 32] = [
+pub const CATEGORIES: [&str; 40] = [
     "labels, registers and flags",
     "schemas at their limits",
     "schemas with one rule broken",
@@ -154,6 +155,14 @@ pub const CATEGORIES: [&str; 32] = [
     "edge: flag 65,534 may be deleted",
     "edge: merging a copy of itself changes no word",
     "edge: the end only past the last shown record",
+    "redoing: support by a complete even record",
+    "redoing: support by abort or by propagation",
+    "redoing: old targets by abort or by propagation",
+    "redoing: a deleted record's targets by abort or by propagation",
+    "redoing: flags as an update found them",
+    "redoing: flags as a deletion found them",
+    "redoing: a target referenced twice",
+    "records in chains above R",
 ];
 
 pub fn shape_of(call: u8) -> Option<&'static Shape> {

@@ -758,7 +758,7 @@ fn edit_item(category: u8, schema: &[u64], own: &[u64], delta: Vec<u64>, edit: E
     Item { category, call, slices, words }
 }
 
-fn push_edit(
+pub fn push_edit(
     items: &mut Items,
     category: u8,
     schema: &[u64],
@@ -1205,5 +1205,6 @@ pub fn vectors(seed: u64) -> Vec<Item> {
     }
     fleets(&mut items, &mut random);
     super::edges::edges(&mut items, &mut random);
+    super::redoing::redoing(&mut items, &mut random);
     items.items
 }
