@@ -1,10 +1,11 @@
 //! The three edits, and the deltas they write.
 
 use crate::label::{self, delete, label_of, redo, Register};
+use crate::layout::{self, DELTA_CAPACITY};
 use crate::rules::{holds, rule, Rule};
 use crate::schema::{Kind, Schema};
 use crate::shown::{key_values, references, shown, standing, values_of};
-use crate::table::{self, Record, Table, DELTA_CAPACITY, DELTA_WORDS};
+use crate::table::{self, Record, Table};
 use crate::{need, Answer, Refusal};
 
 /// A record of a delta with no register and no flag yet.
@@ -185,7 +186,7 @@ fn redo_all(table: &mut Table, changed: &mut Vec<Record>, redone: &[usize]) {
 
 /// 1: the length of a delta.
 fn is_delta(delta: &[u64]) -> bool {
-    holds(Rule::DeltaLength, delta.len() == DELTA_WORDS)
+    holds(Rule::DeltaLength, delta.len() == layout::DELTA)
 }
 
 /// Writes the table and the delta.

@@ -11,6 +11,7 @@ pub mod cases;
 pub mod edit;
 pub mod inputs;
 pub mod label;
+pub mod layout;
 pub mod list;
 pub mod merge;
 pub mod random;

@@ -1,6 +1,7 @@
 //! Merge.
 
 use crate::label::{join_flags, join_registers};
+use crate::layout;
 use crate::rules::{holds, rule, Rule};
 use crate::schema;
 use crate::table::{self, Table};
@@ -42,7 +43,7 @@ pub fn join(own: &Table, other: &Table) -> Table {
 }
 
 pub fn merge(schema: &[u64], own: &mut [u64], other: &[u64]) -> Answer<()> {
-    let lengths = schema.len() == schema::WORDS
+    let lengths = schema.len() == layout::SCHEMA
         && table::capacity_of(own.len()).is_some()
         && table::capacity_of(other.len()).is_some();
     need(lengths, Refusal::LengthOrIndex)?;

@@ -249,3 +249,11 @@ pub fn walk(schema: &[u64], table: &[u64], marks: &[u8], place: &mut u64) -> Ans
     }
     Ok(Step::End)
 }
+
+/// The index that a walk gave, or 0.
+pub fn given(answer: &Answer<Step>) -> u64 {
+    match answer {
+        Ok(Step::Record(index)) => *index,
+        _ => 0,
+    }
+}
