@@ -2,11 +2,11 @@
 
 use crate::edit::deletion;
 use crate::label::{join_flags, join_registers, label_of, Register};
+use crate::layout::{self, abort, propagation, FIELD_COUNT, KINDS, MASKS, PLAIN, RELATION_COUNT};
 use crate::list::list;
 use crate::number;
-use crate::schema;
 use crate::shown::marks;
-use crate::table::{Record, Table, DELTA_WORDS};
+use crate::table::{Record, Table};
 
 pub const GROUP: u64 = 1;
 pub const COW: u64 = 2;
@@ -14,21 +14,25 @@ pub const MILKING: u64 = 3;
 
 /// The words of a schema from the kinds and the two masks of each relation.
 pub fn schema_words(relations: &[(&[u64], u64, u64)]) -> Vec<u64> {
-    let mut words = vec![0; schema::WORDS];
-    words[0] = relations.len() as u64;
+    let mut words = vec![0; layout::SCHEMA];
+    words[RELATION_COUNT] = relations.len() as u64;
     for (at, (kinds, first, second)) in relations.iter().enumerate() {
-        let begin = 1 + schema::BLOCK * at;
-        words[begin] = kinds.len() as u64;
-        words[begin + 1..begin + 1 + kinds.len()].copy_from_slice(kinds);
-        words[begin + 9] = *first;
-        words[begin + 10] = *second;
+        let begin = layout::block(at + 1);
+        words[begin + FIELD_COUNT] = kinds.len() as u64;
+        words[begin + KINDS..][..kinds.len()].copy_from_slice(kinds);
+        words[begin + MASKS] = *first;
+        words[begin + MASKS + 1] = *second;
     }
     words
 }
 
 /// Groups, cows and milkings.
 pub fn herd() -> Vec<u64> {
-    schema_words(&[(&[1], 1, 0), (&[1, 17], 1, 0), (&[34, 1], 0, 0)])
+    schema_words(&[
+        (&[PLAIN], 1, 0),
+        (&[PLAIN, abort(GROUP)], 1, 0),
+        (&[propagation(COW), PLAIN], 0, 0),
+    ])
 }
 
 /// A record whose registers are all stamped with its own label.
@@ -132,7 +136,7 @@ pub fn text() -> String {
         item(&mut text, "table", &joined(&words));
         shown_items(&mut text, &schema, &words, table.capacity, "");
         if case >= 11 {
-            let mut delta = vec![0; DELTA_WORDS];
+            let mut delta = vec![0; layout::DELTA];
             let answer = deletion(&schema, &mut words, &mut delta, DELETED);
             item(&mut text, "deletion", &joined(&[DELETED]));
             item(&mut text, "answer", &joined(&[number(&answer)]));

@@ -3,9 +3,9 @@
 
 use crate::cases::{self, bytes_of, herd, record, table_of, COW, GROUP, MILKING};
 use crate::label::{label_of, LARGEST_COUNTER};
-use crate::list::LARGEST_CAPACITY;
+use crate::layout::{self, FIELDS, FIELD_COUNT, LIST_CAPACITY, WORD};
 use crate::random::{self, Random, Shape};
-use crate::table::{Record, Table, DELTA_WORDS, HEADER, RECORD};
+use crate::table::{Record, Table};
 use crate::vectors::called_table;
 use crate::{deletion, insertion, merge, start};
 
@@ -20,19 +20,19 @@ struct Robot {
 
 impl Robot {
     fn new(replica: u64) -> Robot {
-        let mut table = vec![0; HEADER + RECORD * 16];
+        let mut table = vec![0; layout::table(16)];
         let _ = start(&mut table, replica);
         Robot { table }
     }
 
     /// The label of the record entered.
     fn enter(&mut self, relation: u64, values: &[u64]) -> u64 {
-        let mut delta = vec![0; DELTA_WORDS];
+        let mut delta = vec![0; layout::DELTA];
         insertion(&herd(), &mut self.table, &mut delta, relation, values).unwrap_or(0)
     }
 
     fn strike(&mut self, index: u64) {
-        let mut delta = vec![0; DELTA_WORDS];
+        let mut delta = vec![0; layout::DELTA];
         let _ = deletion(&herd(), &mut self.table, &mut delta, index);
     }
 
@@ -63,7 +63,7 @@ pub fn barn() -> Vec<u8> {
 /// A table of 300 records that are all shown: groups, and cows in them.
 fn full() -> Table {
     let mut records: Vec<Record> = Vec::new();
-    for at in 1..=LARGEST_CAPACITY as u64 {
+    for at in 1..=LIST_CAPACITY as u64 {
         let label = label_of(at, 1 + at % 255);
         let group = label_of(1 + (at - 1) / 3 * 3, 1 + (1 + (at - 1) / 3 * 3) % 255);
         records.push(match at % 3 {
@@ -80,12 +80,12 @@ pub fn runs() -> Vec<(String, Vec<u8>)> {
     let c5 = cases::table(5).words();
     let whole = input(&schema, &c5);
     let mut broken = schema.clone();
-    broken[1] = 9;
+    broken[layout::block(1) + FIELD_COUNT] = FIELDS as u64 + 1;
     let mut damaged = c5.clone();
     damaged[1] = 1;
-    let mut empty = vec![0; HEADER];
+    let mut empty = vec![0; layout::table(0)];
     let _ = start(&mut empty, 1);
-    let mut above = vec![0; HEADER + RECORD * (LARGEST_CAPACITY + 1)];
+    let mut above = vec![0; layout::table(LIST_CAPACITY + 1)];
     let _ = start(&mut above, 1);
     let named = [
         ("c5", whole.clone()),
@@ -113,8 +113,8 @@ const EACH: usize = 40;
 
 fn large(random: &mut Random) -> Vec<u8> {
     let schema = random::schema(random);
-    let used = random.below(LARGEST_CAPACITY as u64 + 1) as usize;
-    let room = LARGEST_CAPACITY - used;
+    let used = random.below(LIST_CAPACITY as u64 + 1) as usize;
+    let room = LIST_CAPACITY - used;
     let shape = Shape {
         used,
         capacity: used + random.below(room as u64 + 1) as usize,
@@ -157,8 +157,8 @@ fn resized(random: &mut Random, mut bytes: Vec<u8>) -> Vec<u8> {
         0 => random.below(last as u64) as usize,
         1 => last.saturating_sub(1 + random.below(9) as usize),
         2 => last + 1 + random.below(9) as usize,
-        3 => last + 8 * random.below(40) as usize,
-        _ => 8 * (97 + HEADER + RECORD * (LARGEST_CAPACITY + random.below(3) as usize)),
+        3 => last + WORD * random.below(40) as usize,
+        _ => WORD * (layout::SCHEMA + layout::table(LIST_CAPACITY + random.below(3) as usize)),
     };
     bytes.resize(size, 0);
     bytes
@@ -191,7 +191,8 @@ fn one(random: &mut Random, category: &str) -> Vec<u8> {
         }
         "lengths" => resized(random, input(&schema, &table)),
         "noise" => {
-            let size = random.pick(&[8 * 97, 8 * 113, 8 * 133, 8 * 153, 500, 50_000]);
+            let [none, one, two] = [0, 1, 2].map(|n| WORD * (layout::SCHEMA + layout::table(n)));
+            let size = random.pick(&[WORD * layout::SCHEMA, none, one, two, 500, 50_000]);
             (0..size).map(|_| random.below(256) as u8).collect()
         }
         _ => input(&schema, &table),

@@ -1,5 +1,7 @@
 //! Labels, registers and flags.
 
+use crate::rules::{holds, rule, Rule};
+
 pub const LARGEST_COUNTER: u64 = (1 << 40) - 1;
 pub const LARGEST_REPLICA: u64 = 255;
 pub const LARGEST_FLAG: u64 = 65_535;
@@ -45,13 +47,9 @@ pub struct Register {
 
 /// The larger stamp; with equal stamps the larger value.
 pub fn join_registers(a: Register, b: Register) -> Register {
-    if a.stamp != b.stamp {
-        if a.stamp > b.stamp {
-            a
-        } else {
-            b
-        }
-    } else if a.value > b.value {
+    let by = if a.stamp != b.stamp { Rule::LargerStamp } else { Rule::LargerValue };
+    let left_is_larger = if a.stamp != b.stamp { a.stamp > b.stamp } else { a.value > b.value };
+    if rule(by) && left_is_larger {
         a
     } else {
         b
@@ -59,7 +57,11 @@ pub fn join_registers(a: Register, b: Register) -> Register {
 }
 
 pub fn join_flags(a: u64, b: u64) -> u64 {
-    a.max(b)
+    if rule(Rule::LargerFlag) {
+        a.max(b)
+    } else {
+        b
+    }
 }
 
 pub fn is_deleted(flag: u64) -> bool {
@@ -68,7 +70,7 @@ pub fn is_deleted(flag: u64) -> bool {
 
 /// Adds 1 to an even flag. What is no flag is left as it is.
 pub fn delete(flag: u64) -> u64 {
-    if flag > LARGEST_FLAG || is_deleted(flag) {
+    if flag > LARGEST_FLAG || !holds(Rule::DeletesEven, !is_deleted(flag)) {
         flag
     } else {
         flag + 1
@@ -78,7 +80,7 @@ pub fn delete(flag: u64) -> u64 {
 /// Adds 1 to an odd flag. The calls refuse to redo 65,535, above which there is no flag; it and
 /// what is no flag are left as they are.
 pub fn redo(flag: u64) -> u64 {
-    if flag < LARGEST_FLAG && is_deleted(flag) {
+    if flag < LARGEST_FLAG && holds(Rule::RedoesOdd, is_deleted(flag)) {
         flag + 1
     } else {
         flag

@@ -1,26 +1,25 @@
 //! The list program: bytes in, text out.
 
 use crate::label::written;
+use crate::layout::{self, LABEL, LIST_CAPACITY, RELATION, WORD};
 use crate::schema::{self, Kind};
 use crate::shown::{marks, walk, Step};
 use crate::table;
 use crate::{Answer, Refusal};
 
-pub const LARGEST_CAPACITY: usize = 300;
-
 /// The words of the input; none if it does not end with a whole word.
 fn words_of(input: &[u8]) -> Option<Vec<u64>> {
-    if input.len() % 8 != 0 {
+    if input.len() % WORD != 0 {
         return None;
     }
     let word = |bytes: &[u8]| bytes.iter().rev().fold(0, |sum, byte| sum << 8 | *byte as u64);
-    Some(input.chunks(8).map(word).collect())
+    Some(input.chunks(WORD).map(word).collect())
 }
 
 fn line(schema: &schema::Schema, table: &[u64], index: u64) -> String {
-    let begin = table::HEADER + table::RECORD * (index as usize - 1);
-    let relation = table[begin + 1];
-    let mut text = format!("{} {}", relation, written(table[begin + 2]));
+    let begin = layout::record(index as usize - 1);
+    let relation = table[begin + RELATION];
+    let mut text = format!("{} {}", relation, written(table[begin + LABEL]));
     let kinds = schema.relation(relation).map(|of| of.kinds.clone()).unwrap_or_default();
     for (kind, value) in kinds.iter().zip(table::values(table, index)) {
         text.push(' ');
@@ -36,12 +35,12 @@ fn line(schema: &schema::Schema, table: &[u64], index: u64) -> String {
 
 fn text_of(input: &[u8]) -> Answer<String> {
     let words = words_of(input).ok_or(Refusal::LengthOrIndex)?;
-    if words.len() < schema::WORDS {
+    if words.len() < layout::SCHEMA {
         return Err(Refusal::LengthOrIndex);
     }
-    let (schema_words, table) = words.split_at(schema::WORDS);
+    let (schema_words, table) = words.split_at(layout::SCHEMA);
     let capacity = table::capacity_of(table.len()).ok_or(Refusal::LengthOrIndex)?;
-    if capacity > LARGEST_CAPACITY {
+    if capacity > LIST_CAPACITY {
         return Err(Refusal::LengthOrIndex);
     }
     let mut shown = vec![0; capacity];

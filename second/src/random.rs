@@ -2,6 +2,7 @@
 
 use crate::cases::{herd, schema_words};
 use crate::label::{counter, label_of, Register, LARGEST_COUNTER, LARGEST_FLAG};
+use crate::layout::{abort, propagation, PLAIN};
 use crate::schema::{self, Kind, Schema};
 use crate::table::{Record, Table};
 use std::collections::BTreeSet;
@@ -50,25 +51,38 @@ impl Random {
 
 /// Nodes that reference each other by abort and by propagation, with two keys.
 pub fn nodes() -> Vec<u64> {
-    schema_words(&[(&[17, 33, 1], 4, 5)])
+    schema_words(&[(&[abort(1), propagation(1), PLAIN], 4, 5)])
 }
 
 /// Two relations that reference each other, with empty references in keys.
 pub fn pair() -> Vec<u64> {
-    schema_words(&[(&[1, 18], 3, 0), (&[17, 33, 1], 2, 4)])
+    schema_words(&[(&[PLAIN, abort(2)], 3, 0), (&[abort(1), propagation(1), PLAIN], 2, 4)])
 }
 
 /// Eight relations; the last has eight fields and keys of four.
 pub fn wide() -> Vec<u64> {
     schema_words(&[
-        (&[1], 1, 0),
-        (&[17, 1], 2, 0),
-        (&[33], 0, 0),
-        (&[1, 1, 19], 3, 0),
-        (&[24, 40], 0, 0),
-        (&[1], 0, 1),
-        (&[23], 1, 0),
-        (&[1, 17, 34, 19, 36, 24, 1, 40], 15, 240),
+        (&[PLAIN], 1, 0),
+        (&[abort(1), PLAIN], 2, 0),
+        (&[propagation(1)], 0, 0),
+        (&[PLAIN, PLAIN, abort(3)], 3, 0),
+        (&[abort(8), propagation(8)], 0, 0),
+        (&[PLAIN], 0, 1),
+        (&[abort(7)], 1, 0),
+        (
+            &[
+                PLAIN,
+                abort(1),
+                propagation(2),
+                abort(3),
+                propagation(4),
+                abort(8),
+                PLAIN,
+                propagation(8),
+            ],
+            15,
+            240,
+        ),
     ])
 }
 
@@ -80,7 +94,7 @@ fn random_schema(random: &mut Random) -> Vec<u64> {
         let kinds: Vec<u64> = (0..fields)
             .map(|_| {
                 let target = 1 + random.below(relations);
-                random.pick(&[1, 1, 16 + target, 16 + target, 32 + target])
+                random.pick(&[PLAIN, PLAIN, abort(target), abort(target), propagation(target)])
             })
             .collect();
         let masks = [random.below(1 << fields), random.below(1 << fields)];

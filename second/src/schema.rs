@@ -1,12 +1,11 @@
-//! The schema: 97 words.
+//! The schema.
 
+use crate::layout::{
+    self, ABORT, BLOCK_ZERO, FIELDS, FIELD_COUNT, KEYS, KEY_FIELDS, KINDS, MASKS, PLAIN,
+    PROPAGATION, RELATIONS, RELATION_COUNT,
+};
+use crate::rules::{holds, rule, Rule};
 use crate::{need, Answer, Refusal};
-
-pub const WORDS: usize = 97;
-pub const BLOCK: usize = 12;
-pub const RELATIONS: usize = 8;
-pub const FIELDS: usize = 8;
-pub const LARGEST_KEY: u32 = 4;
 
 #[derive(Clone, Copy, Debug, PartialEq, Eq)]
 pub enum Kind {
@@ -55,20 +54,23 @@ impl Schema {
 }
 
 fn read_kind(word: u64, relations: u64) -> Option<Kind> {
-    if word == 1 {
+    let most = |by: Rule| if rule(by) { relations } else { RELATIONS as u64 };
+    if word == PLAIN {
         Some(Kind::Plain)
-    } else if 17 <= word && word <= 16 + relations {
-        Some(Kind::Abort(word - 16))
-    } else if 33 <= word && word <= 32 + relations {
-        Some(Kind::Propagation(word - 32))
-    } else {
+    } else if ABORT < word && word <= ABORT + most(Rule::AbortWithinRelations) {
+        Some(Kind::Abort(word - ABORT))
+    } else if PROPAGATION < word && word <= PROPAGATION + most(Rule::PropagationWithinRelations) {
+        Some(Kind::Propagation(word - PROPAGATION))
+    } else if rule(Rule::KnownKind) {
         None
+    } else {
+        Some(Kind::Plain)
     }
 }
 
 fn read_key(mask: u64, fields: usize) -> Option<Vec<usize>> {
-    let within = mask < 1 << fields;
-    if within && mask.count_ones() <= LARGEST_KEY {
+    let within = holds(Rule::KeyWithinFields, mask < 1 << fields);
+    if within && holds(Rule::MostKeyFields, mask.count_ones() <= KEY_FIELDS) {
         Some((0..fields).filter(|field| mask >> field & 1 == 1).collect())
     } else {
         None
@@ -76,20 +78,24 @@ fn read_key(mask: u64, fields: usize) -> Option<Vec<usize>> {
 }
 
 fn read_block(block: &[u64], relations: u64) -> Option<Relation> {
-    if block[0] < 1 || block[0] > FIELDS as u64 {
+    let some = holds(Rule::SomeField, 1 <= block[FIELD_COUNT]);
+    if !some || !holds(Rule::MostFields, block[FIELD_COUNT] <= FIELDS as u64) {
         return None;
     }
-    let fields = block[0] as usize;
+    let fields = block[FIELD_COUNT].min(FIELDS as u64) as usize;
     let mut kinds = Vec::new();
     for field in 0..fields {
-        kinds.push(read_kind(block[1 + field], relations)?);
+        kinds.push(read_kind(block[KINDS + field], relations)?);
     }
-    if block[1 + fields..9].iter().any(|word| *word != 0) || block[11] != 0 {
+    let above = block[KINDS + fields..MASKS].iter().all(|word| *word == 0);
+    if !holds(Rule::KindsAboveFields, above)
+        || !holds(Rule::LastWordOfBlock, block[BLOCK_ZERO] == 0)
+    {
         return None;
     }
     let mut keys = Vec::new();
-    for mask in [block[9], block[10]] {
-        let key = read_key(mask, fields)?;
+    for mask in &block[MASKS..MASKS + KEYS] {
+        let key = read_key(*mask, fields)?;
         if !key.is_empty() {
             keys.push(key);
         }
@@ -97,18 +103,23 @@ fn read_block(block: &[u64], relations: u64) -> Option<Relation> {
     Some(Relation { kinds, keys })
 }
 
-/// The schema that 97 words tell, if they are not broken.
+/// The schema that these words tell, if they are not broken.
 pub fn read(words: &[u64]) -> Option<Schema> {
-    if words.len() != WORDS || words[0] < 1 || words[0] > RELATIONS as u64 {
+    if words.len() != layout::SCHEMA {
         return None;
     }
-    let count = words[0] as usize;
+    let told = words[RELATION_COUNT];
+    let some = holds(Rule::SomeRelation, 1 <= told);
+    if !some || !holds(Rule::MostRelations, told <= RELATIONS as u64) {
+        return None;
+    }
+    let count = told.min(RELATIONS as u64);
     let mut relations = Vec::new();
-    for number in 0..RELATIONS {
-        let block = &words[1 + BLOCK * number..1 + BLOCK * (number + 1)];
-        if number < count {
-            relations.push(read_block(block, words[0])?);
-        } else if block.iter().any(|word| *word != 0) {
+    for number in 1..=RELATIONS {
+        let block = &words[layout::block(number)..layout::block(number + 1)];
+        if number as u64 <= count {
+            relations.push(read_block(block, count)?);
+        } else if !holds(Rule::BlocksAboveRelations, block.iter().all(|word| *word == 0)) {
             return None;
         }
     }
@@ -116,6 +127,6 @@ pub fn read(words: &[u64]) -> Option<Schema> {
 }
 
 pub fn schema_check(schema: &[u64]) -> Answer<()> {
-    need(schema.len() == WORDS, Refusal::LengthOrIndex)?;
+    need(schema.len() == layout::SCHEMA, Refusal::LengthOrIndex)?;
     need(read(schema).is_some(), Refusal::BrokenSchema)
 }

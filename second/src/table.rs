@@ -1,15 +1,14 @@
-//! The table: 16 + 20N words.
+//! The table.
 
 use crate::label::{self, Register};
+use crate::layout::{
+    self, CAPACITY, CLOCK, FIELDS, FLAG, HEADER, LABEL, NEXT, RECORD, RELATION, RELATIONS, REPLICA,
+    STAMPS, USED, VALUES, ZERO, ZEROS,
+};
+use crate::rules::{holds, rule, Rule};
 use crate::schema::{self, Kind, Schema};
 use crate::{need, Answer, Refusal};
 use std::collections::BTreeMap;
-
-pub const HEADER: usize = 16;
-pub const RECORD: usize = 20;
-pub const LARGEST_CAPACITY: usize = 4_096;
-pub const DELTA_CAPACITY: usize = 9;
-pub const DELTA_WORDS: usize = HEADER + RECORD * DELTA_CAPACITY;
 
 #[derive(Clone, Debug, PartialEq, Eq)]
 pub struct Record {
@@ -51,28 +50,28 @@ impl Table {
 
     /// The words of the table; chains follow the list order.
     pub fn words(&self) -> Vec<u64> {
-        let mut words = vec![0; HEADER + RECORD * self.capacity];
-        words[0] = self.replica;
-        words[1] = self.clock;
-        words[2] = self.records.len() as u64;
+        let mut words = vec![0; layout::table(self.capacity)];
+        words[REPLICA] = self.replica;
+        words[CLOCK] = self.clock;
+        words[USED] = self.records.len() as u64;
         for (at, record) in self.records.iter().enumerate() {
-            let begin = HEADER + RECORD * at;
-            words[begin + 1] = record.relation;
-            words[begin + 2] = record.label;
-            words[begin + 3] = record.flag;
+            let begin = layout::record(at);
+            words[begin + RELATION] = record.relation;
+            words[begin + LABEL] = record.label;
+            words[begin + FLAG] = record.flag;
             for (field, register) in record.registers.iter().enumerate() {
-                words[begin + 4 + field] = register.value;
-                words[begin + 12 + field] = register.stamp;
+                words[begin + VALUES + field] = register.value;
+                words[begin + STAMPS + field] = register.stamp;
             }
         }
         let mut last: Option<(u64, usize)> = None;
         for ((relation, _), at) in self.positions() {
             let link = match last {
-                Some((before, begin)) if before == relation => begin,
-                _ => 3 + relation as usize,
+                Some((before, begin)) if before == relation => begin + NEXT,
+                _ => layout::first(relation as usize),
             };
             words[link] = at as u64 + 1;
-            last = Some((relation, HEADER + RECORD * at));
+            last = Some((relation, layout::record(at)));
         }
         words
     }
@@ -84,7 +83,7 @@ pub fn capacity_of(length: usize) -> Option<usize> {
         return None;
     }
     let capacity = (length - HEADER) / RECORD;
-    if capacity <= LARGEST_CAPACITY {
+    if capacity <= CAPACITY {
         Some(capacity)
     } else {
         None
@@ -99,38 +98,44 @@ pub fn is_index(table: &[u64], index: u64) -> bool {
 /// Whether this is 0 to used and to N, in a table of a right length.
 pub fn is_place(table: &[u64], place: u64) -> bool {
     match capacity_of(table.len()) {
-        Some(capacity) => place <= table[2] && place <= capacity as u64,
+        Some(capacity) => place <= table[USED] && place <= capacity as u64,
         None => false,
     }
 }
 
 fn read_register(kind: Kind, value: u64, stamp: u64, clock: u64) -> Option<Register> {
-    if !label::is_label_or_none(stamp) || label::counter(stamp) > clock {
-        return None;
+    let stamp_good = holds(Rule::Stamp, label::is_label_or_none(stamp))
+        && holds(Rule::ClockOverStamps, label::counter(stamp) <= clock)
+        && holds(Rule::ValueUnderNone, stamp != label::NONE || value == 0);
+    let value_good = kind == Kind::Plain
+        || holds(Rule::Reference, label::is_label_or_none(value))
+            && holds(Rule::ClockOverReferences, label::counter(value) <= clock);
+    if stamp_good && value_good {
+        Some(Register { value, stamp })
+    } else {
+        None
     }
-    if stamp == label::NONE && value != 0 {
-        return None;
-    }
-    if kind != Kind::Plain {
-        if !label::is_label_or_none(value) || label::counter(value) > clock {
-            return None;
-        }
-    }
-    Some(Register { value, stamp })
 }
 
 fn read_record(schema: &Schema, words: &[u64], clock: u64) -> Option<Record> {
-    let (relation, name, flag) = (words[1], words[2], words[3]);
-    let kinds = &schema.relation(relation)?.kinds;
-    if !label::is_label(name) || label::counter(name) > clock || flag > label::LARGEST_FLAG {
+    let (relation, name, flag) = (words[RELATION], words[LABEL], words[FLAG]);
+    let kinds: &[Kind] = match schema.relation(relation) {
+        Some(of) => &of.kinds,
+        None if rule(Rule::ChainsAboveRelations) => return None,
+        None => &[],
+    };
+    if !holds(Rule::RecordLabel, label::is_label(name))
+        || !holds(Rule::ClockOverLabels, label::counter(name) <= clock)
+        || !holds(Rule::FlagRange, flag <= label::LARGEST_FLAG)
+    {
         return None;
     }
     let mut registers = Vec::new();
     for (field, kind) in kinds.iter().enumerate() {
-        registers.push(read_register(*kind, words[4 + field], words[12 + field], clock)?);
+        registers.push(read_register(*kind, words[VALUES + field], words[STAMPS + field], clock)?);
     }
-    let unused = kinds.len()..schema::FIELDS;
-    if unused.into_iter().any(|field| words[4 + field] != 0 || words[12 + field] != 0) {
+    let zero = |from: usize| (kinds.len()..FIELDS).all(|field| words[from + field] == 0);
+    if !holds(Rule::UnusedValues, zero(VALUES)) || !holds(Rule::UnusedStamps, zero(STAMPS)) {
         return None;
     }
     Some(Record { relation, label: name, flag, registers })
@@ -139,38 +144,47 @@ fn read_record(schema: &Schema, words: &[u64], clock: u64) -> Option<Record> {
 /// Whether the chains hold each record once, in its relation's chain, with strictly rising labels.
 fn chains_hold(words: &[u64], records: &[Record]) -> bool {
     let mut held = 0;
-    for relation in 1..=schema::RELATIONS {
-        let mut index = words[3 + relation];
+    for relation in 1..=RELATIONS {
+        let mut index = words[layout::first(relation)];
         let mut before = 0;
         while index != 0 {
             if index > records.len() as u64 {
-                return false;
+                if rule(Rule::NoIndexAbove) {
+                    return false;
+                }
+                break;
             }
             let at = index as usize - 1;
             let record = &records[at];
-            if record.relation != relation as u64 || record.label <= before {
+            let rising = holds(Rule::RisingLabels, record.label >= before)
+                && holds(Rule::StrictlyRising, record.label != before);
+            if !rising || !holds(Rule::ChainOfRelation, record.relation == relation as u64) {
                 return false;
             }
+            // Chains that hold more than all records hold one twice; a ring would not end.
             held += 1;
+            if held > records.len() {
+                return false;
+            }
             before = record.label;
-            index = words[HEADER + RECORD * at];
+            index = words[layout::record(at) + NEXT];
         }
     }
-    held == records.len()
+    holds(Rule::OnAChain, held == records.len())
 }
 
 /// The table that the words tell, if they have a right length and are well-formed.
 pub fn read(schema: &Schema, words: &[u64]) -> Option<Table> {
     let capacity = capacity_of(words.len())?;
-    let (replica, clock, used) = (words[0], words[1], words[2]);
-    if replica < 1 || replica > label::LARGEST_REPLICA || clock > label::LARGEST_COUNTER {
-        return None;
-    }
-    if used > capacity as u64 || words[3] != 0 || words[12..16].iter().any(|word| *word != 0) {
-        return None;
-    }
-    let end = HEADER + RECORD * used as usize;
-    if words[end..].iter().any(|word| *word != 0) {
+    let (replica, clock, used) = (words[REPLICA], words[CLOCK], words[USED]);
+    let header = holds(Rule::SomeReplica, 1 <= replica)
+        && holds(Rule::MostReplica, replica <= label::LARGEST_REPLICA)
+        && holds(Rule::ClockRange, clock <= label::LARGEST_COUNTER)
+        && holds(Rule::UsedWithinCapacity, used <= capacity as u64)
+        && holds(Rule::HeaderZero, words[ZERO] == 0)
+        && holds(Rule::HeaderEnd, words[ZEROS..HEADER].iter().all(|word| *word == 0));
+    let end = layout::record((used as usize).min(capacity));
+    if !header || !holds(Rule::WordsAboveUsed, words[end..].iter().all(|word| *word == 0)) {
         return None;
     }
     let mut records = Vec::new();
@@ -185,7 +199,7 @@ pub fn read(schema: &Schema, words: &[u64]) -> Option<Table> {
 
 /// The checks 1 to 3 of a call on a schema and a table.
 pub fn read_checked(schema: &[u64], table: &[u64], more: bool) -> Answer<(Schema, Table)> {
-    let lengths = schema.len() == schema::WORDS && capacity_of(table.len()).is_some();
+    let lengths = schema.len() == layout::SCHEMA && capacity_of(table.len()).is_some();
     need(lengths && more, Refusal::LengthOrIndex)?;
     let schema = schema::read(schema).ok_or(Refusal::BrokenSchema)?;
     let table = read(&schema, table).ok_or(Refusal::OwnTable)?;
@@ -199,17 +213,17 @@ pub fn table_check(schema: &[u64], table: &[u64]) -> Answer<()> {
 pub fn start(table: &mut [u64], replica: u64) -> Answer<()> {
     need(capacity_of(table.len()).is_some(), Refusal::LengthOrIndex)?;
     let replica_fits = 1 <= replica && replica <= label::LARGEST_REPLICA;
-    need(replica_fits, Refusal::RelationOrReplica)?;
+    need(holds(Rule::StartReplica, replica_fits), Refusal::RelationOrReplica)?;
     table.fill(0);
-    table[0] = replica;
+    table[REPLICA] = replica;
     Ok(())
 }
 
-/// The eight values of the record of this index, or an empty part.
+/// The values of the record of this index, or an empty part.
 pub fn values(table: &[u64], index: u64) -> &[u64] {
     if !is_index(table, index) {
         return &[];
     }
-    let begin = HEADER + RECORD * (index as usize - 1) + 4;
-    &table[begin..begin + 8]
+    let begin = layout::record(index as usize - 1) + VALUES;
+    &table[begin..begin + FIELDS]
 }

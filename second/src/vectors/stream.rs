@@ -1,15 +1,10 @@
 //! Writing and reading the stream, and what the vector program prints.
 
-use super::{run, shape_of, Fleet, Item, Outcome, Shape, SCHEMA, SHAPES, TABLE, THIRD, VALUES};
+use super::digest::digest;
+use super::fleet::Fleet;
+use super::item::{shape_of, Item, Outcome, Shape, SCHEMA, SHAPES, TABLE, THIRD, VALUES};
+use super::run::run;
 use std::collections::BTreeMap;
-
-/// The modulus of the digest, 2^40 − 87.
-pub const MODULUS: u64 = 1_099_511_627_689;
-pub const FACTOR: u64 = 1_000_003;
-
-pub fn digest(sum: u64, word: u64) -> u64 {
-    ((sum % MODULUS) * FACTOR + word % MODULUS) % MODULUS
-}
 
 /// A number, most significant seven bits first; all bytes but the last have the top bit.
 fn write_number(out: &mut Vec<u8>, number: u64) {
@@ -212,13 +207,6 @@ pub fn expect(bytes: &[u8]) -> String {
     for ((call, answer), count) in &answers {
         let name = shape_of(*call).map_or("", |shape| shape.name);
         text.push_str(&format!("answer {} {} {}\n", name, answer, count));
-    }
-    for (at, shape) in SHAPES.iter().enumerate() {
-        let count: u64 =
-            answers.iter().filter(|((call, _), _)| *call as usize == at + 1).map(|(_, n)| n).sum();
-        if !shape.runs && count > 0 {
-            text.push_str(&format!("left out {} {}\n", shape.name, count));
-        }
     }
     text.push_str(&format!("mismatches {}\n", mismatches));
     text

@@ -1,0 +1,347 @@
+//! The rules of document 01, one by one, each with its sentence.
+//!
+//! The code asks `rule` or `holds` where a rule decides. Both are constant, but in this crate's own
+//! tests, of which one drops each rule in turn and looks for a difference in the vectors.
+
+/// The list of the rules, from which both the type and the list of all are made.
+macro_rules! rules {
+    ($($(#[$sentence:meta])+ $name:ident,)+) => {
+        #[derive(Clone, Copy, Debug, PartialEq, Eq)]
+        pub(crate) enum Rule {
+            $($(#[$sentence])+ $name,)+
+        }
+
+        #[cfg(test)]
+        pub(crate) const ALL: &[Rule] = &[$(Rule::$name,)+];
+    };
+}
+
+rules! {
+    // Labels, registers, flags.
+    /// "Merge keeps the larger stamp." Dropped: the right side's register.
+    LargerStamp,
+    /// "With equal stamps the larger value is kept". Dropped: the right side's value.
+    LargerValue,
+    /// "Merge takes the larger." Dropped: the right side's flag.
+    LargerFlag,
+    /// "Deleting adds 1 to an even flag [...]; otherwise neither alters it."
+    DeletesEven,
+    /// "redoing adds 1 to an odd flag; otherwise neither alters it."
+    RedoesOdd,
+
+    // The schema.
+    /// "Word 0 is the number of relations R, 1 to 8": at least 1.
+    SomeRelation,
+    /// "Word 0 is the number of relations R, 1 to 8": at most 8.
+    MostRelations,
+    /// "field count F (1 to 8)": at least 1.
+    SomeField,
+    /// "field count F (1 to 8)": at most 8.
+    MostFields,
+    /// "Kind 1 is a plain value; 16 + r is a reference to relation r with abort; 32 + r is one with
+    /// propagation". Dropped: any other word is a plain value.
+    KnownKind,
+    /// "16 + r [...]; r is 1 to R", at most R. Dropped: at most 8.
+    AbortWithinRelations,
+    /// "32 + r [...]; r is 1 to R", at most R. Dropped: at most 8.
+    PropagationWithinRelations,
+    /// "kinds above F are 0".
+    KindsAboveFields,
+    /// "Blocks above R [...] are 0."
+    BlocksAboveRelations,
+    /// "two key masks, a zero".
+    LastWordOfBlock,
+    /// "a key names at least one and at most four fields".
+    MostKeyFields,
+    /// "all within F".
+    KeyWithinFields,
+
+    // Well-formed.
+    /// "header fields lie in their ranges": "replica (1 to 255)", at least 1.
+    SomeReplica,
+    /// "header fields lie in their ranges": "replica (1 to 255)", at most 255.
+    MostReplica,
+    /// "header fields lie in their ranges": "clock (0 to 2^40 − 1)".
+    ClockRange,
+    /// "header fields lie in their ranges": "3 zero".
+    HeaderZero,
+    /// "header fields lie in their ranges": "12 to 15 zero".
+    HeaderEnd,
+    /// "record labels are labels".
+    RecordLabel,
+    /// "stamps labels or none".
+    Stamp,
+    /// "flags within range".
+    FlagRange,
+    /// "a value under stamp none is 0".
+    ValueUnderNone,
+    /// "used is at most N".
+    UsedWithinCapacity,
+    /// "each chain holds records of its relation".
+    ChainOfRelation,
+    /// "with strictly rising labels": rising.
+    RisingLabels,
+    /// "with strictly rising labels": strictly.
+    StrictlyRising,
+    /// "each of 1 to used lies on a chain".
+    OnAChain,
+    /// "and no index above it". Dropped: such an index ends its chain.
+    NoIndexAbove,
+    /// "words above the used records are zero".
+    WordsAboveUsed,
+    /// "unused fields are zero": the values.
+    UnusedValues,
+    /// "unused fields are zero": the stamps.
+    UnusedStamps,
+    /// "a reference is 0 or a label".
+    Reference,
+    /// "the clock is at least every counter in labels, stamps and references": labels.
+    ClockOverLabels,
+    /// "the clock is at least every counter in labels, stamps and references": stamps.
+    ClockOverStamps,
+    /// "the clock is at least every counter in labels, stamps and references": references.
+    ClockOverReferences,
+    /// "Chains of relations above R are empty." Dropped: their records have no fields.
+    ChainsAboveRelations,
+
+    // The shown list.
+    /// Step 1: "Take complete records".
+    TakenComplete,
+    /// Step 1: "with even flags".
+    TakenEven,
+    /// Step 2: "Add complete records reached from these".
+    AddReached,
+    /// Step 2: "by abort references".
+    ReachedByAbort,
+    /// Step 2: "any number of hops". Dropped: one hop.
+    AnyHops,
+    /// Step 2: "each hop landing on a complete record".
+    HopOnComplete,
+    /// Step 3: "Drop each standing record that conflicts".
+    DropLosers,
+    /// Step 3: "with an older [...] one (smaller label". Dropped: with any other.
+    OlderWins,
+    /// Step 3: "standing one". Dropped: with any record.
+    StandingWins,
+    /// Step 3: "same relation".
+    WithinRelation,
+    /// Step 3: "on either key". Dropped: on the first alone.
+    OnSecondKey,
+    /// Step 3: "on either key". Dropped: on the last alone.
+    OnFirstKey,
+    /// "Two records conflict on a key if all its fields are equal". Dropped: the first of them.
+    AllKeyFields,
+    /// "and no reference among them is empty (0)".
+    EmptyReferenceInKey,
+    /// "no reference among them is empty": a plain 0 is not. Dropped: it is.
+    PlainZeroInKey,
+    /// Step 4: "keep the largest set in which every nonempty reference leads to a member".
+    KeepClosed,
+    /// Step 4: "the largest set". Dropped: what is built up from records without references.
+    LargestSet,
+    /// Step 4: "every nonempty reference": abort references.
+    ClosedByAbort,
+    /// Step 4: "every nonempty reference": propagation references.
+    ClosedByPropagation,
+    /// Step 4: "every nonempty reference": an empty one is left out.
+    ClosedButForEmpty,
+    /// Step 4: "leads to a member". Dropped: to a record that step 3 left.
+    LeadsToMember,
+    /// "A step 3 winner lost in step 4 does not bring its loser back."
+    LoserStaysOut,
+    /// "gives the next record in list order". Dropped: in the order of the positions.
+    WalkInListOrder,
+    /// "whose mark is 1, and takes any other mark for 0". Dropped: any mark but 0.
+    MarkIsOne,
+
+    // Merge.
+    /// "records with the same relation and label join register by register".
+    JoinRegisters,
+    /// "and flag by flag".
+    JoinFlags,
+    /// "others are added".
+    AddOthers,
+    /// "at used + 1 onward in list order". Dropped: in the order of the other's positions.
+    AddedInListOrder,
+    /// "The clock becomes the larger one".
+    LargerClock,
+    /// "the own replica number and old positions remain": the number.
+    OwnReplica,
+    /// Answer 11: "merge needs more than N distinct records".
+    MergeFull,
+
+    // Insertion.
+    /// "the new label is clock + 1 with the own replica number": the number. Dropped: 1.
+    NewLabelReplica,
+    /// "and it stamps all fields". Dropped: the first alone.
+    StampsAllFields,
+    /// Insertion: "the clock rises by 1".
+    InsertionClock,
+    /// "Each target [...] is redone".
+    InsertionRedoes,
+    /// "Each target with an odd flag".
+    InsertionTargetOdd,
+    /// "once however often it is referenced".
+    InsertionOnce,
+
+    // Update.
+    /// Update: "new stamp as above", with the clock that rises.
+    UpdateClock,
+    /// "For references the new target is redone if odd."
+    NewTargetRedone,
+    /// "For references the new target is redone if odd.": if odd.
+    NewTargetOdd,
+    /// "Then the old target [...] is redone".
+    OldTargetRedone,
+    /// "the old target, if different".
+    OldTargetDifferent,
+    /// "and reached by abort".
+    OldTargetByAbort,
+    /// "is redone if it is odd".
+    OldTargetOdd,
+    /// Update: "and a [...] record other than the updated one references it": one at all.
+    UpdateSupport,
+    /// Update: "a complete even record": complete.
+    UpdateSupportComplete,
+    /// Update: "a complete even record": even.
+    UpdateSupportEven,
+    /// Update: "other than the updated one".
+    UpdateSupportOther,
+    /// Update: "references it", by abort.
+    UpdateSupportByAbort,
+    /// Update: "references it", by propagation.
+    UpdateSupportByPropagation,
+    /// "In updates [...] the condition reads all flags as the call found them." Dropped: with the
+    /// new target redone.
+    UpdateReadsFound,
+
+    // Deletion.
+    /// "its flag is raised".
+    DeletionRaises,
+    /// Deletion: "the clock stays". Dropped: it rises.
+    DeletionClock,
+    /// "Each [...] target [...] is redone".
+    DeletionRedoes,
+    /// "Each abort target".
+    DeletionByAbort,
+    /// "other than itself".
+    DeletionOther,
+    /// "is redone, once".
+    DeletionOnce,
+    /// Deletion: "under the same condition": the target is odd.
+    DeletionTargetOdd,
+    /// Deletion: "under the same condition": a record references it.
+    DeletionSupport,
+    /// Deletion: "under the same condition": a complete one.
+    DeletionSupportComplete,
+    /// Deletion: "under the same condition": an even one.
+    DeletionSupportEven,
+    /// "the deleted record not counting".
+    DeletionSupportOther,
+    /// Deletion: "under the same condition": "references it", by abort.
+    DeletionSupportByAbort,
+    /// Deletion: "under the same condition": "references it", by propagation.
+    DeletionSupportByPropagation,
+    /// "In [...] deletions the condition reads all flags as the call found them." Dropped: with the
+    /// targets before it redone, in the order of the fields.
+    DeletionReadsFound,
+    /// The same. Dropped: with the deleted record's flag raised.
+    DeletionReadsOwnFound,
+
+    // The delta.
+    /// "It holds [...] only the changed records". Dropped: each target too.
+    OnlyChanged,
+    /// "in list order from 1". Dropped: the edited record first.
+    DeltaInListOrder,
+    /// "with unchanged registers none".
+    UnchangedRegistersNone,
+    /// "and unchanged flags 0".
+    UnchangedFlagsZero,
+
+    // What a call hands back.
+    /// 1: "a lent slice other than an insertion's values has a wrong length": the delta's.
+    DeltaLength,
+    /// 5: "relation not 1 to R". Dropped: a relation above R or 0 is relation 1.
+    RelationNumber,
+    /// 5: "replica not 1 to 255 at start".
+    StartReplica,
+    /// 6: "record to edit is not shown": in an update.
+    UpdateShown,
+    /// 6: "record to edit is not shown": in a deletion.
+    DeletionShown,
+    /// 7: "field not 1 to F". Dropped: such a field is the first.
+    FieldNumber,
+    /// 7: "wrong value count". Dropped: missing values are 0, further ones go.
+    ValueCount,
+    /// 7: "reference neither 0 nor a label".
+    ReferenceValue,
+    /// 8: "nonempty new target not shown".
+    TargetShown,
+    /// 8: "nonempty". Dropped: an empty target is not shown either.
+    TargetNonempty,
+    /// 8: "not shown". Dropped: not standing.
+    TargetNotOnlyStanding,
+    /// 9: "insertion: a standing record conflicts with the new one".
+    InsertionConflict,
+    /// 9: "update: another standing record would conflict".
+    UpdateConflict,
+    /// 9: "a standing record". Dropped: a shown one.
+    ConflictWithStanding,
+    /// 9: "another standing record", in an update.
+    ConflictWithAnother,
+    /// 9: "on a key that names the field".
+    ConflictOnNamedKey,
+    /// 10: "another standing record references it by abort".
+    Guarded,
+    /// 10: "another".
+    GuardedByAnother,
+    /// 10: "standing". Dropped: a shown one.
+    GuardedByStanding,
+    /// 10: "by abort".
+    GuardedByAbort,
+    /// 11: "insertion with used = N".
+    InsertionFull,
+    /// 12: "insertion [...] with clock 2^40 − 1".
+    InsertionClockAtEnd,
+    /// 12: "[...] update with clock 2^40 − 1".
+    UpdateClockAtEnd,
+    /// 13: "a flag to be redone is 65,535".
+    FlagAtEnd,
+}
+
+/// Whether the rule is in force: always.
+#[cfg(not(test))]
+pub(crate) const fn rule(_: Rule) -> bool {
+    true
+}
+
+#[cfg(test)]
+pub(crate) use switch::{rule, without};
+
+/// What a rule demands, where it is in force.
+pub(crate) fn holds(by: Rule, demanded: bool) -> bool {
+    demanded || !rule(by)
+}
+
+/// The switch, which only the tests of this crate have.
+#[cfg(test)]
+mod switch {
+    use super::Rule;
+    use std::cell::Cell;
+
+    thread_local! {
+        static DROPPED: Cell<Option<Rule>> = const { Cell::new(None) };
+    }
+
+    pub(crate) fn rule(rule: Rule) -> bool {
+        DROPPED.get() != Some(rule)
+    }
+
+    /// Runs with one rule dropped, on this thread.
+    pub(crate) fn without<T>(rule: Rule, run: impl FnOnce() -> T) -> T {
+        DROPPED.set(Some(rule));
+        let back = run();
+        DROPPED.set(None);
+        back
+    }
+}

@@ -1,0 +1,204 @@
+//! Each rule is dropped in turn, and the stored items are run again: some must come back different.
+
+use super::stream;
+use crate::rules::{without, Rule, ALL};
+use crate::vectors::{self, Fleet, Item, Outcome};
+use std::panic::{catch_unwind, AssertUnwindSafe};
+
+/// What the vectors must say of a rule.
+enum Demand {
+    /// At least so many items come back different without it.
+    Decided(usize),
+    /// No item can, for this reason.
+    Follows(&'static str),
+}
+
+use Demand::{Decided, Follows};
+
+/// How many items must decide a rule of the redoing.
+const MANY: usize = 20;
+
+/// Every rule has its line here: a match without one does not compile.
+fn demand(rule: Rule) -> Demand {
+    match rule {
+        Rule::OldTargetDifferent => {
+            Follows("an old target that is the new one is redone as the new one, if it is odd")
+        }
+        Rule::DeletionOther => Follows(
+            "a shown record with an odd flag is referenced by abort by another standing record, \
+             which answer 10 comes before; so the deleted record is even, and no target to redo",
+        ),
+        Rule::DeletionReadsOwnFound => {
+            Follows("the deleted record does not count, so that its flag is not read")
+        }
+        Rule::ChainsAboveRelations
+        | Rule::InsertionRedoes
+        | Rule::InsertionTargetOdd
+        | Rule::InsertionOnce
+        | Rule::NewTargetRedone
+        | Rule::NewTargetOdd
+        | Rule::OldTargetRedone
+        | Rule::OldTargetByAbort
+        | Rule::OldTargetOdd
+        | Rule::UpdateSupport
+        | Rule::UpdateSupportComplete
+        | Rule::UpdateSupportEven
+        | Rule::UpdateSupportOther
+        | Rule::UpdateSupportByAbort
+        | Rule::UpdateSupportByPropagation
+        | Rule::UpdateReadsFound
+        | Rule::DeletionRedoes
+        | Rule::DeletionByAbort
+        | Rule::DeletionOnce
+        | Rule::DeletionTargetOdd
+        | Rule::DeletionSupport
+        | Rule::DeletionSupportComplete
+        | Rule::DeletionSupportEven
+        | Rule::DeletionSupportOther
+        | Rule::DeletionSupportByAbort
+        | Rule::DeletionSupportByPropagation
+        | Rule::DeletionReadsFound => Decided(MANY),
+        Rule::LargerStamp
+        | Rule::LargerValue
+        | Rule::LargerFlag
+        | Rule::DeletesEven
+        | Rule::RedoesOdd
+        | Rule::SomeRelation
+        | Rule::MostRelations
+        | Rule::SomeField
+        | Rule::MostFields
+        | Rule::KnownKind
+        | Rule::AbortWithinRelations
+        | Rule::PropagationWithinRelations
+        | Rule::KindsAboveFields
+        | Rule::BlocksAboveRelations
+        | Rule::LastWordOfBlock
+        | Rule::MostKeyFields
+        | Rule::KeyWithinFields
+        | Rule::SomeReplica
+        | Rule::MostReplica
+        | Rule::ClockRange
+        | Rule::HeaderZero
+        | Rule::HeaderEnd
+        | Rule::RecordLabel
+        | Rule::Stamp
+        | Rule::FlagRange
+        | Rule::ValueUnderNone
+        | Rule::UsedWithinCapacity
+        | Rule::ChainOfRelation
+        | Rule::RisingLabels
+        | Rule::StrictlyRising
+        | Rule::OnAChain
+        | Rule::NoIndexAbove
+        | Rule::WordsAboveUsed
+        | Rule::UnusedValues
+        | Rule::UnusedStamps
+        | Rule::Reference
+        | Rule::ClockOverLabels
+        | Rule::ClockOverStamps
+        | Rule::ClockOverReferences
+        | Rule::TakenComplete
+        | Rule::TakenEven
+        | Rule::AddReached
+        | Rule::ReachedByAbort
+        | Rule::AnyHops
+        | Rule::HopOnComplete
+        | Rule::DropLosers
+        | Rule::OlderWins
+        | Rule::StandingWins
+        | Rule::WithinRelation
+        | Rule::OnSecondKey
+        | Rule::OnFirstKey
+        | Rule::AllKeyFields
+        | Rule::EmptyReferenceInKey
+        | Rule::PlainZeroInKey
+        | Rule::KeepClosed
+        | Rule::LargestSet
+        | Rule::ClosedByAbort
+        | Rule::ClosedByPropagation
+        | Rule::ClosedButForEmpty
+        | Rule::LeadsToMember
+        | Rule::LoserStaysOut
+        | Rule::WalkInListOrder
+        | Rule::MarkIsOne
+        | Rule::JoinRegisters
+        | Rule::JoinFlags
+        | Rule::AddOthers
+        | Rule::AddedInListOrder
+        | Rule::LargerClock
+        | Rule::OwnReplica
+        | Rule::MergeFull
+        | Rule::NewLabelReplica
+        | Rule::StampsAllFields
+        | Rule::InsertionClock
+        | Rule::UpdateClock
+        | Rule::DeletionRaises
+        | Rule::DeletionClock
+        | Rule::OnlyChanged
+        | Rule::DeltaInListOrder
+        | Rule::UnchangedRegistersNone
+        | Rule::UnchangedFlagsZero
+        | Rule::DeltaLength
+        | Rule::RelationNumber
+        | Rule::StartReplica
+        | Rule::UpdateShown
+        | Rule::DeletionShown
+        | Rule::FieldNumber
+        | Rule::ValueCount
+        | Rule::ReferenceValue
+        | Rule::TargetShown
+        | Rule::TargetNonempty
+        | Rule::TargetNotOnlyStanding
+        | Rule::InsertionConflict
+        | Rule::UpdateConflict
+        | Rule::ConflictWithStanding
+        | Rule::ConflictWithAnother
+        | Rule::ConflictOnNamedKey
+        | Rule::Guarded
+        | Rule::GuardedByAnother
+        | Rule::GuardedByStanding
+        | Rule::GuardedByAbort
+        | Rule::InsertionFull
+        | Rule::InsertionClockAtEnd
+        | Rule::UpdateClockAtEnd
+        | Rule::FlagAtEnd => Decided(1),
+    }
+}
+
+/// The items that stand for themselves. In a fleet a difference would show again in all items that
+/// follow, and a table of 4,096 records takes long.
+fn single_items() -> Vec<(Item, Outcome)> {
+    let single = |item: &Item| {
+        item.call < vectors::FLEET_BEGIN && item.slices.iter().all(|slice| slice.len() < 2_000)
+    };
+    vectors::read(stream()).unwrap().into_iter().filter(|(item, _)| single(item)).collect()
+}
+
+/// Whether an item comes back different, or ends in a panic, as it does where a table without room
+/// is written.
+fn differs(fleet: &mut Fleet, item: &Item, told: &Outcome) -> bool {
+    let back = catch_unwind(AssertUnwindSafe(|| vectors::run(fleet, item)));
+    back.map_or(true, |back| back != *told)
+}
+
+fn differences(items: &[(Item, Outcome)]) -> usize {
+    let mut fleet = Fleet::default();
+    items.iter().filter(|(item, told)| differs(&mut fleet, item, told)).count()
+}
+
+#[test]
+fn each_rule_is_decided_by_the_vectors() {
+    let items = single_items();
+    assert_eq!(differences(&items), 0);
+    let mut wrong = Vec::new();
+    for rule in ALL {
+        let count = without(*rule, || differences(&items));
+        println!("{:?} {}", rule, count);
+        match demand(*rule) {
+            Decided(least) if count < least => wrong.push((rule, count, "too few")),
+            Follows(reason) if count > 0 => wrong.push((rule, count, reason)),
+            _ => {}
+        }
+    }
+    assert!(wrong.is_empty(), "{:?}", wrong);
+}
