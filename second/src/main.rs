@@ -1,5 +1,5 @@
 //! `second cases`, `second list`, `second barn`, `second runs DIR`, `second lists SEED DIR`,
-//! `second vectors SEED`, `second expect`.
+//! `second vectors SEED DIR`, `second expect`.
 //!
 //! A test's second implementation; in no shipped artifact.
 

@@ -1,4 +1,8 @@
 // An item: its slices, and what must come back against what came back.
+ghost use mathlib.Core.Path.{_≡_};
+ghost use mathlib.Core.Bool.{false};
+ghost use Prim.Native.Nat.{_≤_};
+ghost use lib.Dec.{eqb};
 use crate::rows;
 use crate::stream;
 use crate::stream::Cursor;
@@ -16,7 +20,9 @@ pub struct Back {
 }
 
 // The told answer, at an index, against the one that came back.
-pub fn answered(s: &[u8], at: usize, words: u64, sum: u64, got: u64) -> Back {
+pub fn answered(s: &[u8], at: usize, words: u64, sum: u64, got: u64) -> Back
+    ensures { λ r. ⌜ (at ≤ r .at) × ((r .words ≡ words) × ((r .sum ≡ sum) × (r .good ≡ eqb (r .answer) got))) ⌝ }
+{
     let answer = number(s, at);
     Back {
         at: answer.at,
@@ -28,7 +34,9 @@ pub fn answered(s: &[u8], at: usize, words: u64, sum: u64, got: u64) -> Back {
 }
 
 // The next told result against the one that came back.
-pub fn with_result(s: &[u8], back: Back, got: u64) -> Back {
+pub fn with_result(s: &[u8], back: Back, got: u64) -> Back
+    ensures { λ r. ⌜ (back .at ≤ r .at) × ((r .words ≡ back .words) × ((r .sum ≡ back .sum) × (r .answer ≡ back .answer))) ⌝ }
+{
     let told = number(s, back.at);
     Back {
         at: told.at,
@@ -40,7 +48,9 @@ pub fn with_result(s: &[u8], back: Back, got: u64) -> Back {
 }
 
 // The told exit of a slice against its buffer.
-pub fn with_exit(s: &[u8], back: Back, lent: usize, buffer: &[u64]) -> Back {
+pub fn with_exit(s: &[u8], back: Back, lent: usize, buffer: &[u64]) -> Back
+    ensures { λ r. ⌜ (back .at ≤ r .at) × ((r .words ≡ back .words) × ((r .sum ≡ back .sum) × (r .answer ≡ back .answer))) ⌝ }
+{
     let told = stream::told_exit(s, back.at, lent, buffer);
     Back {
         at: told.at,
@@ -70,6 +80,7 @@ fn load_if(present: u64, s: &[u8], c: Cursor, buffer: &mut [u64]) -> Cursor {
     c
 }
 
+// Takes the slices of an item into the buffers; the first begins at the cursor.
 pub fn load_inputs(
     s: &[u8],
     c: Cursor,
@@ -79,7 +90,9 @@ pub fn load_inputs(
     own: &mut [u64],
     third: &mut [u64],
     values: &mut [u64],
-) -> Inputs {
+) -> Inputs
+    ensures { λ r. ⌜ r .schema ≡ c .at ⌝ }
+{
     let a = load_if(rows::word(rows, call, rows::SCHEMA), s, c, schema);
     let b = load_if(rows::word(rows, call, rows::OWN), s, a, own);
     let d = load_if(rows::word(rows, call, rows::THIRD), s, b, third);
@@ -96,7 +109,9 @@ pub fn load_inputs(
 }
 
 // An item of a call that a program does not have.
-pub fn unknown(taken: Inputs) -> Back {
+pub fn unknown(taken: Inputs) -> Back
+    ensures { λ r. ⌜ (r .at ≡ taken .at) × (r .good ≡ false) ⌝ }
+{
     Back {
         at: taken.at,
         words: taken.words,
@@ -107,7 +122,9 @@ pub fn unknown(taken: Inputs) -> Back {
 }
 
 // Counts an item; the place after it.
-pub fn counted(counts: &mut [u64], i: usize, category: u64, call: u64, back: Back) -> Cursor {
+pub fn counted(counts: &mut [u64], i: usize, category: u64, call: u64, back: Back) -> Cursor
+    ensures { λ r. ⌜ (r .at ≡ back .at) × ((r .words ≡ back .words) × (r .sum ≡ back .sum)) ⌝ }
+{
     tally::count_item(counts, category, call, back.answer);
     tally::count_match(counts, i, back.good);
     Cursor {

@@ -1,16 +1,23 @@
 // What is printed after the last item.
+ghost use mathlib.Core.Path.{_≡_};
+ghost use Rattle.vector_stream.specs.Stream.{nth};
 use crate::rows::print_name;
 use crate::stream::get;
 use crate::tally;
 use libc::STDOUT_FILENO;
 
-pub fn report(rows: &[u64], counts: &[u64]) {
+// Prints the counts; gives the number of the mismatches.
+pub fn report(rows: &[u64], counts: &[u64]) -> u64
+    ensures { λ r. ⌜ r ≡ nth (now (counts .entry)) 8451 ⌝ }
+{
     line(b"items ", get(counts, tally::ITEMS));
     line(b"words ", get(counts, tally::WORDS));
     line(b"digest ", get(counts, tally::DIGEST));
     categories(counts);
     answers(rows, counts);
-    line(b"mismatches ", get(counts, tally::MISMATCHES));
+    let mismatches = get(counts, tally::MISMATCHES);
+    line(b"mismatches ", mismatches);
+    mismatches
 }
 
 fn print(text: &[u8]) {

@@ -21,11 +21,11 @@ pub const THIRD: u64 = 2;
 pub const VALUES: u64 = 3;
 
 // A word of the row of a call.
-pub fn word(rows: &[u64], call: u64, k: u64) -> u64 {
+pub(crate) fn word(rows: &[u64], call: u64, k: u64) -> u64 {
     stream::get(rows, (call % 256 * ROW + k % ROW) as usize)
 }
 
-pub fn print_name(rows: &[u64], call: u64) {
+pub(crate) fn print_name(rows: &[u64], call: u64) {
     for k in NAME..NAME_END {
         print_letter(word(rows, call, k));
     }

@@ -1,6 +1,8 @@
-// The stream's numbers and slices. Every function is total: past the end stand zeros.
+// The stream's numbers and slices. Every function is total: past the end stand zeros. A place in the stream never goes back.
+ghost use mathlib.Core.Path.{_≡_};
 ghost use Prim.Native.Nat.{_≤_};
-ghost use lib.ListN.{length};
+ghost use lib.ListN.{length, set};
+ghost use Rattle.vector_stream.specs.Stream.{nth, digested};
 
 // The bytes of a stream, and the words of a table, of a schema and of an insertion's values that the buffers hold.
 pub const BYTES: usize = 3200000;
@@ -29,7 +31,9 @@ pub struct Cursor {
 
 impl Cursor {
     // The same counts at another place.
-    pub fn moved(self, at: usize) -> Cursor {
+    pub fn moved(self, at: usize) -> Cursor
+        ensures { λ r. ⌜ (r .at ≡ at) × ((r .words ≡ self .words) × (r .sum ≡ self .sum)) ⌝ }
+    {
         Cursor {
             at: at,
             zeros: 0,
@@ -40,7 +44,9 @@ impl Cursor {
     }
 
     // This word taken.
-    pub fn taken(self, at: usize, zeros: u64, word: u64) -> Cursor {
+    fn taken(self, at: usize, zeros: u64, word: u64) -> Cursor
+        ensures { λ r. ⌜ r .at ≡ at ⌝ }
+    {
         let words = self.words % 4294967296 + 1;
         let sum = digest(self.sum, word);
         Cursor {
@@ -54,7 +60,9 @@ impl Cursor {
 }
 
 // No word taken yet.
-pub fn begin(at: usize) -> Cursor {
+pub fn begin(at: usize) -> Cursor
+    ensures { λ r. ⌜ (r .at ≡ at) × ((r .words ≡ 0) × (r .sum ≡ 0)) ⌝ }
+{
     Cursor {
         at: at,
         zeros: 0,
@@ -77,15 +85,23 @@ pub const MODULUS: u64 = 1099511627689;
 
 pub const FACTOR: u64 = 1000003;
 
-pub fn digest(sum: u64, word: u64) -> u64 {
+// A word taken into a digest.
+pub fn digest(sum: u64, word: u64) -> u64
+    ensures { λ r. ⌜ r ≡ digested sum word ⌝ }
+{
     (sum % MODULUS * FACTOR + word % MODULUS) % MODULUS
 }
 
-fn wide(x: u8) -> u64 {
+fn wide(x: u8) -> u64
+    ensures { λ r. ⌜ r ≡ x ⌝ }
+{
     x as u64
 }
 
-pub fn byte(s: &[u8], at: usize) -> u64 {
+// A byte, 0 past the end.
+pub fn byte(s: &[u8], at: usize) -> u64
+    ensures { λ r. ⌜ r ≡ nth (now (s .entry)) at ⌝ }
+{
     if at < s.len() {
         return wide(s[at]);
     }
@@ -93,7 +109,9 @@ pub fn byte(s: &[u8], at: usize) -> u64 {
 }
 
 // One more, or the largest index.
-pub fn after(at: usize) -> usize {
+pub fn after(at: usize) -> usize
+    ensures { λ r. ⌜ at ≤ r ⌝ }
+{
     if at < 18446744073709551615 {
         return at + 1;
     }
@@ -101,13 +119,16 @@ pub fn after(at: usize) -> usize {
 }
 
 // A sum of indices, or the first where it has no room.
-pub fn plus(at: usize, k: u64) -> usize {
+pub fn plus(at: usize, k: u64) -> usize
+    ensures { λ r. ⌜ at ≤ r ⌝ }
+{
     if at < 4294967296 {
         return at + (k % 4294967296) as usize;
     }
     at
 }
 
+// The smaller of two numbers.
 pub fn least(a: u64, b: usize) -> usize
     ensures { λ r. ⌜ r ≤ b ⌝ }
 {
@@ -117,21 +138,29 @@ pub fn least(a: u64, b: usize) -> usize
     b
 }
 
-pub fn get(words: &[u64], k: usize) -> u64 {
+// Word `k`, 0 past the end.
+pub fn get(words: &[u64], k: usize) -> u64
+    ensures { λ r. ⌜ r ≡ nth (now (words .entry)) k ⌝ }
+{
     if k < words.len() {
         return words[k];
     }
     0
 }
 
-pub fn put(words: &mut [u64], k: usize, x: u64) {
+// Word `k` set to `x`; nothing past the end.
+pub fn put(words: &mut [u64], k: usize, x: u64)
+    ensures { λ _. ⌜ now (words .exit) ≡ set (now (words .entry)) k x ⌝ }
+{
     if k < words.len() {
         words[k] = x;
     }
 }
 
 // A number has its most significant seven bits first; every byte but its last is 128 or more.
-pub fn number(s: &[u8], at: usize) -> Told {
+pub fn number(s: &[u8], at: usize) -> Told
+    ensures { λ r. ⌜ at ≤ r .at ⌝ }
+{
     let mut value: u64 = 0;
     let mut i = at;
     while i < s.len() {
@@ -152,7 +181,9 @@ pub fn number(s: &[u8], at: usize) -> Told {
 }
 
 // Takes the next word of a slice. A 0 is followed by the length of its run of zeros.
-pub fn next_word(s: &[u8], c: Cursor) -> Cursor {
+fn next_word(s: &[u8], c: Cursor) -> Cursor
+    ensures { λ r. ⌜ c .at ≤ r .at ⌝ }
+{
     if 0 < c.zeros {
         return c.taken(c.at, c.zeros - 1, 0);
     }
@@ -168,7 +199,9 @@ pub fn next_word(s: &[u8], c: Cursor) -> Cursor {
 }
 
 // Puts the slice that begins at the cursor into the buffer, as far as it has room.
-pub fn load(s: &[u8], from: Cursor, buffer: &mut [u64]) -> Cursor {
+pub fn load(s: &[u8], from: Cursor, buffer: &mut [u64]) -> Cursor
+    ensures { λ r. ⌜ from .at ≤ r .at ⌝ }
+{
     let told = number(s, from.at);
     let n = least(told.value, buffer.len());
     let mut c = from.moved(told.at);
@@ -189,7 +222,9 @@ pub fn words_of(s: &[u8], at: usize, buffer: &[u64]) -> usize
 }
 
 // Whether the buffer begins with the slice at an index, and where that ends.
-pub fn same(s: &[u8], at: usize, buffer: &[u64]) -> Exit {
+fn same(s: &[u8], at: usize, buffer: &[u64]) -> Exit
+    ensures { λ r. ⌜ at ≤ r .at ⌝ }
+{
     let told = number(s, at);
     let n = least(told.value, buffer.len());
     let mut c = begin(told.at);
@@ -209,7 +244,9 @@ pub fn same(s: &[u8], at: usize, buffer: &[u64]) -> Exit {
 
 // Compares a buffer with what is told of its exit: 0 as it was lent, otherwise the slice. The lent
 // slice begins at `lent`.
-pub fn told_exit(s: &[u8], at: usize, lent: usize, buffer: &[u64]) -> Exit {
+pub(crate) fn told_exit(s: &[u8], at: usize, lent: usize, buffer: &[u64]) -> Exit
+    ensures { λ r. ⌜ at ≤ r .at ⌝ }
+{
     let marker = number(s, at);
     if marker.value == 0 {
         let entry = same(s, lent, buffer);
@@ -223,13 +260,18 @@ pub fn told_exit(s: &[u8], at: usize, lent: usize, buffer: &[u64]) -> Exit {
 }
 
 // Puts marks, which the stream holds as words, into bytes.
-pub fn to_bytes(words: &[u64], bytes: &mut [u8]) {
+pub fn to_bytes(words: &[u64], bytes: &mut [u8])
+    ensures { λ _. ⌜ length (now (bytes .exit)) ≡ length (now (bytes .entry)) ⌝ }
+{
     for k in 0..bytes.len() {
         bytes[k] = (get(words, k) % 256) as u8;
     }
 }
 
-pub fn to_words(bytes: &[u8], words: &mut [u64]) {
+// Puts marks back into words.
+pub fn to_words(bytes: &[u8], words: &mut [u64])
+    ensures { λ _. ⌜ length (now (words .exit)) ≡ length (now (words .entry)) ⌝ }
+{
     for k in 0..bytes.len() {
         put(words, k, wide(bytes[k]));
     }

@@ -1,4 +1,6 @@
 // The counts: for each category, for each answer of each call, and of the mismatches.
+ghost use mathlib.Core.Path.{_≡_};
+ghost use lib.ListN.{set};
 use crate::stream::get;
 use crate::stream::put;
 use libc::STDOUT_FILENO;
@@ -23,7 +25,10 @@ pub const COUNTS: usize = 8452;
 
 pub const PRINTED: u64 = 10;
 
-pub fn put_sums(counts: &mut [u64], items: u64, words: u64, digest: u64) {
+// The number of the items, of the words taken, and their digest.
+pub fn put_sums(counts: &mut [u64], items: u64, words: u64, digest: u64)
+    ensures { λ _. ⌜ now (counts .exit) ≡ set (set (set (now (counts .entry)) 8448 items) 8449 words) 8450 digest ⌝ }
+{
     put(counts, ITEMS, items);
     put(counts, WORDS, words);
     put(counts, DIGEST, digest);
@@ -35,17 +40,17 @@ fn add(counts: &mut [u64], k: usize) {
 }
 
 // Where the count of an answer of a call stands.
-pub fn place(call: u64, answer: u64) -> usize {
+pub(crate) fn place(call: u64, answer: u64) -> usize {
     (ANSWERS + call % CALLS * ANSWERS_OF_CALL + answer % ANSWERS_OF_CALL) as usize
 }
 
-pub fn count_item(counts: &mut [u64], category: u64, call: u64, answer: u64) {
+pub(crate) fn count_item(counts: &mut [u64], category: u64, call: u64, answer: u64) {
     add(counts, (category % ANSWERS) as usize);
     add(counts, place(call, answer));
 }
 
 // Counts a mismatch, and prints the number of the item while there are few.
-pub fn count_match(counts: &mut [u64], i: usize, good: bool) {
+pub(crate) fn count_match(counts: &mut [u64], i: usize, good: bool) {
     if good {
         return;
     }

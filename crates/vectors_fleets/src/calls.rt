@@ -1,5 +1,6 @@
 // One function for each call over a fleet: it takes the numbers from the stream, makes the call and compares.
 use crate::fleet;
+use crate::slots;
 use vector_stream::items;
 use vector_stream::items::Back;
 use vector_stream::items::Inputs;
@@ -9,7 +10,7 @@ use vector_stream::stream::number;
 
 // The told digest of the fleet against its own.
 fn digested(s: &[u8], back: Back, fleet: &[u64], delta: &[u64]) -> Back {
-    items::with_result(s, back, vector_fleet::digest_of(fleet, delta))
+    items::with_result(s, back, slots::digest_of(fleet, delta))
 }
 
 // The capacities of the five tables; where the next number begins.
@@ -17,15 +18,15 @@ fn begin_slots(s: &[u8], at: usize, fleet: &mut [u64]) -> usize {
     let mut place = number(s, at).at;
     for slot in 0..5 {
         let capacity = number(s, place);
-        vector_fleet::begin_slot(fleet, slot, capacity.value);
+        slots::begin_slot(fleet, slot, capacity.value);
         place = capacity.at;
     }
     place
 }
 
 fn begin(s: &[u8], taken: Inputs, fleet: &mut [u64], delta: &mut [u64], schema: &[u64]) -> Back {
-    vector_fleet::begin(fleet, schema, stream::words_of(s, taken.schema, schema));
-    vector_fleet::clear(delta);
+    slots::begin(fleet, schema, stream::words_of(s, taken.schema, schema));
+    slots::clear(delta);
     let at = begin_slots(s, taken.at, fleet);
     let back = items::answered(s, at, taken.words, taken.sum, 0);
     digested(s, back, fleet, delta)
@@ -49,7 +50,7 @@ fn copy(s: &[u8], taken: Inputs, fleet: &mut [u64], delta: &[u64], own: &mut [u6
 
 fn copy_delta(s: &[u8], taken: Inputs, fleet: &mut [u64], delta: &[u64]) -> Back {
     let slot = number(s, taken.at);
-    vector_fleet::store(fleet, slot.value, delta, delta.len());
+    slots::store(fleet, slot.value, delta, delta.len());
     let back = items::answered(s, slot.at, taken.words, taken.sum, 0);
     digested(s, back, fleet, delta)
 }
@@ -58,7 +59,7 @@ fn spoil(s: &[u8], taken: Inputs, fleet: &mut [u64], delta: &[u64]) -> Back {
     let slot = number(s, taken.at);
     let index = number(s, slot.at);
     let word = number(s, index.at);
-    vector_fleet::spoil(fleet, slot.value, index.value, word.value);
+    slots::spoil(fleet, slot.value, index.value, word.value);
     let back = items::answered(s, word.at, taken.words, taken.sum, 0);
     digested(s, back, fleet, delta)
 }
@@ -150,7 +151,7 @@ fn marks(s: &[u8], taken: Inputs, fleet: &mut [u64], schema: &mut [u64], own: &m
     let got = fleet::marks(fleet, schema, own, slot.value);
     let back = items::answered(s, slot.at, taken.words, taken.sum, got.number());
     let counted = items::with_result(s, back, got.count() as u64);
-    items::with_result(s, counted, vector_fleet::marks_digest(fleet))
+    items::with_result(s, counted, slots::marks_digest(fleet))
 }
 
 fn walk(s: &[u8], taken: Inputs, fleet: &[u64], schema: &mut [u64], own: &mut [u64]) -> Back {

@@ -2,6 +2,7 @@
 // compares what comes back. It prints the first ten mismatches and the counts.
 mod calls;
 mod fleet;
+mod slots;
 
 use vector_stream::items;
 use vector_stream::report;
@@ -36,7 +37,7 @@ fn run(s: &[u8], own: &mut [u64], third: &mut [u64]) {
     let mut rows = [0u64; rows::WORDS];
     let mut schema = [0u64; stream::SCHEMA_WORDS];
     let mut values = [0u64; stream::VALUES];
-    let mut fleet = [0u64; vector_fleet::WORDS];
+    let mut fleet = [0u64; slots::WORDS];
     let mut delta = [0; 196];
     let mut counts = [0u64; tally::COUNTS];
     let begin = stream::load(s, stream::begin(0), &mut rows);

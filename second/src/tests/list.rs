@@ -2,7 +2,7 @@
 
 use crate::cases::{bytes_of, herd, table as case_table};
 use crate::inputs::{barn, lists, runs, CATEGORIES};
-use crate::layout::{self, LIST_CAPACITY};
+use crate::layout::{self, HEADER, LIST_CAPACITY};
 use crate::list::list;
 use crate::start;
 
@@ -25,7 +25,7 @@ fn list_refusals() {
     assert_eq!(list(&[]), "refused 1\n");
     for schema in [herd(), broken.clone()] {
         assert_eq!(listed(&schema, &[]), "refused 1\n");
-        assert_eq!(listed(&schema, &empty[..15]), "refused 1\n");
+        assert_eq!(listed(&schema, &empty[..HEADER - 1]), "refused 1\n");
         assert_eq!(listed(&schema, &vec![0; layout::table(LIST_CAPACITY + 1)]), "refused 1\n");
         let mut bytes = [bytes_of(&schema), bytes_of(&empty)].concat();
         bytes.push(0);

@@ -3,7 +3,7 @@
 use super::{delta, made, marks_of, random_read};
 use crate::cases::{herd, record, table as case_table};
 use crate::label::{label_of, LARGEST_COUNTER};
-use crate::layout::{self, CLOCK, FIELDS, RECORD, USED};
+use crate::layout::{self, CLOCK, FIELDS, HEADER, RECORD, USED};
 use crate::{
     deletion, insertion, marks, merge, number, schema_check, start, table_check, update, values,
     walk,
@@ -16,10 +16,10 @@ fn order_of_checks() {
     let mut own = damaged.clone();
     assert_eq!(number(&schema_check(&broken[..layout::SCHEMA - 1])), 1);
     assert_eq!(number(&schema_check(&broken)), 2);
-    assert_eq!(number(&table_check(&broken, &own[..17])), 1);
+    assert_eq!(number(&table_check(&broken, &own[..HEADER + 1])), 1);
     assert_eq!(number(&table_check(&broken, &own)), 2);
     assert_eq!(number(&table_check(&good, &own)), 3);
-    assert_eq!(number(&start(&mut own[..17], 0)), 1);
+    assert_eq!(number(&start(&mut own[..HEADER + 1], 0)), 1);
     assert_eq!(number(&start(&mut own, 0)), 5);
     assert_eq!(number(&start(&mut own, 256)), 5);
     assert_eq!(number(&update(&broken, &mut own, &mut delta(), 1, 9, 0)), 1);

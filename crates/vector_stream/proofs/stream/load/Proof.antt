@@ -7,7 +7,7 @@ use Rattle.vector_stream.proofs.stream.load.Statement.{statement}
 use Rattle.vector_stream.proofs.stream.load.Tie as tie
 
 abbrev Inv-loop : tie.InvT-loop
-Inv-loop s buffer₀ n c₀ k₀ buffer c k = (k ≤ n) × (length buffer ≡ length buffer₀)
+Inv-loop s buffer₀ n c₀ k₀ buffer c k = (k ≤ n) × ((length buffer ≡ length buffer₀) × (c₀ .at ≤ c .at))
 
 abbrev μ-loop : tie.MeasureT-loop
 μ-loop s buffer₀ n c₀ k₀ buffer c k = n - k
@@ -46,7 +46,7 @@ same-length : tie.Need-same-length Inv-loop μ-loop
 same-length c = search needs
 
 returns : tie.Need-returns Inv-loop μ-loop
-returns c = tt
+returns c = search needs
 
 pub load-spec : {M : Type 1} → statement M
 load-spec =

@@ -1,10 +1,11 @@
 use Prim.Native.Nat.{_≤_, _-_}
+use borrow.Author.Needs.{needs}
 use native.Mathlib.Omega.{arith}
 use Rattle.vector_stream.proofs.stream.same.Statement.{statement}
 use Rattle.vector_stream.proofs.stream.same.Tie as tie
 
 abbrev Inv-loop : tie.InvT-loop
-Inv-loop s at buffer n c₀ good₀ k₀ c good k = k ≤ n
+Inv-loop s at buffer n c₀ good₀ k₀ c good k = (k ≤ n) × (at ≤ c .at)
 
 abbrev μ-loop : tie.MeasureT-loop
 μ-loop s at buffer n c₀ good₀ k₀ c good k = n - k
@@ -19,7 +20,7 @@ begin-requires : tie.Need-begin-requires Inv-loop μ-loop
 begin-requires c κs = tt
 
 loop-holds : tie.Need-loop-holds Inv-loop μ-loop
-loop-holds c = omega arith
+loop-holds c = search needs
 
 next-word-requires : tie.Need-next-word-requires Inv-loop μ-loop
 next-word-requires c κs = tt
@@ -34,10 +35,10 @@ loop-less : tie.Need-loop-less Inv-loop μ-loop
 loop-less c = omega arith
 
 loop-again : tie.Need-loop-again Inv-loop μ-loop
-loop-again c = omega arith
+loop-again c = search needs
 
 returns : tie.Need-returns Inv-loop μ-loop
-returns c = tt
+returns c = search needs
 
 pub same-spec : {M : Type 1} → statement M
 same-spec =

@@ -3,8 +3,8 @@
 use Prim.Native.Nat.{_≤_, _-_}
 use native.Mathlib.Omega.{arith}
 use borrow.Author.Needs.{needs}
-use Rattle.vector_fleet.proofs.digest_of.Statement.{statement}
-use Rattle.vector_fleet.proofs.digest_of.Tie as tie
+use Rattle.vectors_fleets.proofs.slots.digest_of.Statement.{statement}
+use Rattle.vectors_fleets.proofs.slots.digest_of.Tie as tie
 
 abbrev Inv-loop : tie.InvT-loop
 Inv-loop fleet delta sum₀ slot₀ sum slot = slot ≤ 8

@@ -5,8 +5,8 @@ use mathlib.Core.Path.{_≡_}
 use native.Mathlib.Omega.{arith}
 use lib.ListN.{length}
 use borrow.Author.Needs.{needs}
-use Rattle.vector_fleet.proofs.clear.Statement.{statement}
-use Rattle.vector_fleet.proofs.clear.Tie as tie
+use Rattle.vectors_fleets.proofs.slots.clear.Statement.{statement}
+use Rattle.vectors_fleets.proofs.slots.clear.Tie as tie
 
 abbrev Inv-loop : tie.InvT-loop
 Inv-loop words₀ k₀ k-end words k = (k ≤ k-end) × (k-end ≡ length words₀) × (length words ≡ length words₀)

@@ -5,8 +5,8 @@ use mathlib.Core.Path.{_≡_}
 use native.Mathlib.Omega.{arith}
 use lib.ListN.{length}
 use borrow.Author.Needs.{needs}
-use Rattle.vector_fleet.proofs.begin.Statement.{statement}
-use Rattle.vector_fleet.proofs.begin.Tie as tie
+use Rattle.vectors_fleets.proofs.slots.begin.Statement.{statement}
+use Rattle.vectors_fleets.proofs.slots.begin.Tie as tie
 
 abbrev Inv-loop : tie.InvT-loop
 Inv-loop fleet₀ schema n slot₀ fleet slot = (slot ≤ 8) × (length fleet ≡ length fleet₀)

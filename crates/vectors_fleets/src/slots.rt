@@ -1,14 +1,28 @@
-// A fleet in one buffer: tables, a schema and marks that stay from item to item. Every function is total.
+// A fleet in one buffer: tables, a schema and marks that stay from item to item.
 use vector_stream::stream;
 ghost use Prim.Native.Nat.{_≤_};
 
 // What a fleet holds, in one buffer: the lengths of the slots, of the schema and of the marks, then the slots, the schema and
 // the marks. Slots 0 to 4 are tables, slots 5 to 7 copies.
-pub const WORDS: usize = 4480;
+pub const WORDS: usize = MARKS_AT + MOST_MARKS;
 
 pub const SLOTS: u64 = 8;
 
-const SLOT_WORDS: u64 = 496;
+// A slot holds a table of at most so many records.
+pub const MOST_MARKS: usize = 24;
+
+const HEADER: u64 = layout::HEADER_WORDS as u64;
+
+const RECORD: u64 = layout::RECORD_WORDS as u64;
+
+const SLOT_WORDS: u64 = HEADER + RECORD * MOST_MARKS as u64;
+
+// The words of a slot and of the schema are fewer than these.
+const SLOT_END: u64 = SLOT_WORDS + 1;
+
+const SCHEMA_END: u64 = stream::SCHEMA_WORDS as u64 + 1;
+
+const CAPACITY_END: u64 = MOST_MARKS as u64 + 1;
 
 const SCHEMA_LENGTH: usize = 9;
 
@@ -16,24 +30,16 @@ const MARKS_LENGTH: usize = 10;
 
 const SLOTS_AT: usize = 16;
 
-const SCHEMA_AT: usize = 3984;
+const SCHEMA_AT: usize = SLOTS_AT + (SLOTS * SLOT_WORDS) as usize;
 
-const SCHEMA_WORDS: usize = 256;
-
-const MARKS_AT: usize = 4240;
-
-pub const MOST_MARKS: usize = 24;
-
-const HEADER: u64 = 16;
-
-const RECORD: u64 = 20;
+const MARKS_AT: usize = SCHEMA_AT + stream::SCHEMA_WORDS;
 
 fn slot_at(slot: u64) -> usize {
     SLOTS_AT + (slot % SLOTS * SLOT_WORDS) as usize
 }
 
 pub fn length_of(fleet: &[u64], slot: u64) -> u64 {
-    stream::get(fleet, (slot % SLOTS) as usize) % 497
+    stream::get(fleet, (slot % SLOTS) as usize) % SLOT_END
 }
 
 // Copies words, as far as both have room.
@@ -56,8 +62,8 @@ pub fn fetch(fleet: &[u64], slot: u64, buffer: &mut [u64]) -> usize {
 
 // The first words of a buffer into a slot.
 pub fn store(fleet: &mut [u64], slot: u64, buffer: &[u64], n: usize) {
-    copy(buffer, 0, n as u64 % 497, fleet, slot_at(slot));
-    stream::put(fleet, (slot % SLOTS) as usize, n as u64 % 497);
+    copy(buffer, 0, n as u64 % SLOT_END, fleet, slot_at(slot));
+    stream::put(fleet, (slot % SLOTS) as usize, n as u64 % SLOT_END);
 }
 
 pub fn clear(words: &mut [u64]) {
@@ -69,8 +75,8 @@ pub fn clear(words: &mut [u64]) {
 // An empty fleet with this schema.
 pub fn begin(fleet: &mut [u64], schema: &[u64], n: usize) {
     clear(fleet);
-    copy(schema, 0, n as u64 % 257, fleet, SCHEMA_AT);
-    stream::put(fleet, SCHEMA_LENGTH, n as u64 % 257);
+    copy(schema, 0, n as u64 % SCHEMA_END, fleet, SCHEMA_AT);
+    stream::put(fleet, SCHEMA_LENGTH, n as u64 % SCHEMA_END);
     for slot in 0..SLOTS {
         begin_slot(fleet, slot, 0);
     }
@@ -81,13 +87,13 @@ pub fn begin_slot(fleet: &mut [u64], slot: u64, capacity: u64) {
     stream::put(
         fleet,
         (slot % SLOTS) as usize,
-        HEADER + RECORD * (capacity % 25),
+        HEADER + RECORD * (capacity % CAPACITY_END),
     );
 }
 
 // The fleet's schema into a buffer; how many words it has.
 pub fn fetch_schema(fleet: &[u64], buffer: &mut [u64]) -> usize {
-    let n = stream::get(fleet, SCHEMA_LENGTH) % 257;
+    let n = stream::get(fleet, SCHEMA_LENGTH) % SCHEMA_END;
     copy(fleet, SCHEMA_AT, n, buffer, 0);
     n as usize
 }

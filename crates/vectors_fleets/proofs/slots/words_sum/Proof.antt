@@ -3,8 +3,8 @@
 use Prim.Native.Nat.{_≤_, _-_}
 use native.Mathlib.Omega.{arith}
 use borrow.Author.Needs.{needs}
-use Rattle.vector_fleet.proofs.words_sum.Statement.{statement}
-use Rattle.vector_fleet.proofs.words_sum.Tie as tie
+use Rattle.vectors_fleets.proofs.slots.words_sum.Statement.{statement}
+use Rattle.vectors_fleets.proofs.slots.words_sum.Tie as tie
 
 abbrev Inv-loop : tie.InvT-loop
 Inv-loop sum words at count total₀ k₀ total k = k ≤ count

@@ -5,8 +5,8 @@ use mathlib.Core.Path.{_≡_}
 use native.Mathlib.Omega.{arith}
 use lib.ListN.{length}
 use borrow.Author.Needs.{needs}
-use Rattle.vector_fleet.proofs.fetch_marks.Statement.{statement}
-use Rattle.vector_fleet.proofs.fetch_marks.Tie as tie
+use Rattle.vectors_fleets.proofs.slots.fetch_marks.Statement.{statement}
+use Rattle.vectors_fleets.proofs.slots.fetch_marks.Tie as tie
 
 abbrev Inv-loop : tie.InvT-loop
 Inv-loop fleet bytes₀ k₀ k-end bytes k = (k ≤ k-end) × (k-end ≡ length bytes₀) × (length bytes ≡ length bytes₀)
