@@ -4,10 +4,12 @@ ghost use Prim.Native.Nat.{_≤_};
 ghost use lib.ListN.{length, set};
 ghost use Rattle.vector_stream.specs.Stream.{nth, digested};
 
-// The bytes of a stream, and the words of a table, of a schema and of an insertion's values that the buffers hold.
+// The bytes of a stream, and the words of a table, of a schema and of an insertion's values that the buffers hold. The longest
+// tables of the stream are some records too long.
 pub const BYTES: usize = 3200000;
 
-pub const TABLE_WORDS: usize = 82000;
+pub const TABLE_WORDS: usize = layout::HEADER_WORDS
+    + layout::RECORD_WORDS * (layout::MOST_RECORDS + 4);
 
 pub const SCHEMA_WORDS: usize = 256;
 

@@ -1,6 +1,7 @@
 // The counts: for each category, for each answer of each call, and of the mismatches.
 ghost use mathlib.Core.Path.{_≡_};
 ghost use lib.ListN.{set};
+ghost use Rattle.vector_stream.specs.Stream.{itemsAt, wordsAt, digestAt};
 use crate::stream::get;
 use crate::stream::put;
 use libc::STDOUT_FILENO;
@@ -12,22 +13,22 @@ pub const CALLS: u64 = 256;
 
 pub const ANSWERS_OF_CALL: u64 = 32;
 
-pub const ITEMS: usize = 8448;
+pub const ITEMS: usize = (ANSWERS + CALLS * ANSWERS_OF_CALL) as usize;
 
-pub const WORDS: usize = 8449;
+pub const WORDS: usize = ITEMS + 1;
 
-pub const DIGEST: usize = 8450;
+pub const DIGEST: usize = WORDS + 1;
 
-pub const MISMATCHES: usize = 8451;
+pub const MISMATCHES: usize = DIGEST + 1;
 
 // How many counts there are.
-pub const COUNTS: usize = 8452;
+pub const COUNTS: usize = MISMATCHES + 1;
 
 pub const PRINTED: u64 = 10;
 
 // The number of the items, of the words taken, and their digest.
 pub fn put_sums(counts: &mut [u64], items: u64, words: u64, digest: u64)
-    ensures { λ _. ⌜ now (counts .exit) ≡ set (set (set (now (counts .entry)) 8448 items) 8449 words) 8450 digest ⌝ }
+    ensures { λ _. ⌜ now (counts .exit) ≡ set (set (set (now (counts .entry)) itemsAt items) wordsAt words) digestAt digest ⌝ }
 {
     put(counts, ITEMS, items);
     put(counts, WORDS, words);

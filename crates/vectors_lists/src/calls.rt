@@ -9,7 +9,7 @@ use vector_stream::stream::Cursor;
 use vector_stream::stream::number;
 
 // How many marks are held: a table has at most 4,096 records, and a wrong length a few more.
-const MOST_MARKS: usize = 4100;
+const MOST_MARKS: usize = layout::MOST_RECORDS + 4;
 
 fn marks(s: &[u8], taken: Inputs, schema: &[u64], own: &[u64], third: &mut [u64]) -> Back {
     let mut bytes = [0u8; MOST_MARKS];
