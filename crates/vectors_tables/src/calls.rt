@@ -102,10 +102,10 @@ fn is_empty(part: &[u64]) -> u64 {
     0
 }
 
-// The eight told values against a part; those of an empty part are zeros.
+// The told values against a part; those of an empty part are zeros.
 fn with_part(s: &[u8], back: Back, part: &[u64]) -> Back {
     let mut sofar = back;
-    for k in 0..8 {
+    for k in 0..layout::FIELDS {
         sofar = items::with_result(s, sofar, stream::get(part, k));
     }
     sofar

@@ -1,15 +1,16 @@
--- `items::with_part` is safe and ends: eight turns.
+-- `items::with_part` is safe and ends: a turn for each field.
 -- Assumes nothing.
 use Prim.Native.Nat.{_≤_, _-_}
 use native.Mathlib.Omega.{arith}
+use Rattle.model.specs.Layout.{fields}
 use Rattle.vectors_tables.proofs.calls.with_part.Statement.{statement}
 use Rattle.vectors_tables.proofs.calls.with_part.Tie as tie
 
 abbrev Inv-loop : tie.InvT-loop
-Inv-loop s part sofar₀ k₀ sofar k = k ≤ 8
+Inv-loop s part sofar₀ k₀ sofar k = k ≤ fields
 
 abbrev μ-loop : tie.MeasureT-loop
-μ-loop s part sofar₀ k₀ sofar k = 8 - k
+μ-loop s part sofar₀ k₀ sofar k = fields - k
 
 loop-holds : tie.Need-loop-holds Inv-loop μ-loop
 loop-holds c = omega arith
