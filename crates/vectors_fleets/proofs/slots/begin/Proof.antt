@@ -1,4 +1,4 @@
--- `fleet::begin` is safe and ends: a turn for each slot, and the fleet keeps its length.
+-- `slots::begin` is safe and ends: a turn for each slot, and the fleet keeps its length.
 -- Assumes nothing.
 use Prim.Native.Nat.{_≤_, _-_}
 use mathlib.Core.Path.{_≡_}

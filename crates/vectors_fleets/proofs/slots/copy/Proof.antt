@@ -1,4 +1,4 @@
--- `fleet::copy` is safe and ends: a turn for each word copied, and the words keep their number.
+-- `slots::copy` is safe and ends: a turn for each word copied, and the words keep their number.
 -- Assumes nothing.
 use Prim.Native.Nat.{_≤_, _-_}
 use mathlib.Core.Path.{_≡_}

@@ -1,4 +1,4 @@
--- `fleet::digest_of` is safe and ends: a turn for each slot.
+-- `slots::digest_of` is safe and ends: a turn for each slot.
 -- Assumes nothing.
 use Prim.Native.Nat.{_≤_, _-_}
 use native.Mathlib.Omega.{arith}

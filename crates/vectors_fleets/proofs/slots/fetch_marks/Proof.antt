@@ -1,4 +1,4 @@
--- `fleet::fetch_marks` is safe and ends: a turn for each mark, and the bytes keep their number.
+-- `slots::fetch_marks` is safe and ends: a turn for each mark, and the bytes keep their number.
 -- Assumes nothing.
 use Prim.Native.Nat.{_≤_, _-_}
 use mathlib.Core.Path.{_≡_}

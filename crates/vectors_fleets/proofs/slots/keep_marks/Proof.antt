@@ -1,4 +1,4 @@
--- `fleet::keep_marks` is safe and ends: a turn for each mark, and the fleet keeps its length.
+-- `slots::keep_marks` is safe and ends: a turn for each mark, and the fleet keeps its length.
 -- Assumes nothing.
 use Prim.Native.Nat.{_≤_, _-_}
 use mathlib.Core.Path.{_≡_}

@@ -1,4 +1,4 @@
--- `fleet::words_sum` is safe and ends: a turn for each word.
+-- `slots::words_sum` is safe and ends: a turn for each word.
 -- Assumes nothing.
 use Prim.Native.Nat.{_≤_, _-_}
 use native.Mathlib.Omega.{arith}

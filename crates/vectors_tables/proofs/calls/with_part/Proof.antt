@@ -1,4 +1,4 @@
--- `items::with_part` is safe and ends: a turn for each field.
+-- `calls::with_part` is safe and ends: a turn for each field.
 -- Assumes nothing.
 use Prim.Native.Nat.{_≤_, _-_}
 use native.Mathlib.Omega.{arith}
