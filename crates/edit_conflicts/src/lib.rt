@@ -40,8 +40,8 @@ fn takes(
     if layout::relation_at(table, y) != r {
         return false;
     }
-    list_keys::conflicts_on(schema, table, first, y, values)
-        | list_keys::conflicts_on(schema, table, second, y, values)
+    list_conflicts::conflicts_on(schema, table, first, y, values)
+        | list_conflicts::conflicts_on(schema, table, second, y, values)
 }
 
 // Whether a standing record of relation `r`, other than record `but`, conflicts with eight values on one of two keys.

@@ -24,8 +24,8 @@ use Rattle.references.specs.Order.{Checked, keyAt}
 use Rattle.references.specs.Resolved.{Marked}
 use Rattle.references.proofs.Places.{key-relation, relation-least, relation-known}
 use Rattle.marks.specs.Marks.{isMarked}
-use Rattle.list_keys.specs.Keys.{registers, valuesConflict, valuesAt}
-use Rattle.list_keys.proofs.Keys.{fieldAgrees, values-in}
+use Rattle.list_conflicts.specs.Keys.{registers, valuesConflict, valuesAt}
+use Rattle.list_conflicts.proofs.Keys.{fieldAgrees, values-in}
 use Rattle.edit_basics.specs.Targets.{kindsOf, held, Placed}
 use Rattle.edit_basics.proofs.Turns.{NoneTo}
 use Rattle.edit_basics.proofs.Marks.{Part, mark-found, mark-none}

@@ -29,8 +29,8 @@ use Rattle.wellformed.proofs.Formed.{schema-length}
 use Rattle.wellformed.proofs.Facts.{SoundSchema, schema-sound, Formed, formed}
 use Rattle.references.specs.Order.{Checked}
 use Rattle.references.proofs.Places.{key-relation, recs-length}
-use Rattle.list_keys.specs.Keys.{valuesConflict, valuesAt}
-use Rattle.list_keys.proofs.Keys.{first-mask, second-mask}
+use Rattle.list_conflicts.specs.Keys.{valuesConflict, valuesAt}
+use Rattle.list_conflicts.proofs.Keys.{first-mask, second-mask}
 use Rattle.edit_basics.specs.Targets.{kindsOf, bare, held, Placed}
 use Rattle.edit_basics.proofs.Values.{values-fit, leads-stamped}
 use Rattle.edit_laws.specs.Clash.{clashes, Padded}

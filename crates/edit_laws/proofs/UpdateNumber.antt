@@ -30,8 +30,8 @@ use Rattle.references.specs.Order.{Checked, keyAt}
 use Rattle.references.specs.Resolved.{Marked}
 use Rattle.references.proofs.Places.{key-relation, fields-most}
 use Rattle.marks.specs.Marks.{isMarked}
-use Rattle.list_keys.specs.Keys.{valuesConflict, valuesAt}
-use Rattle.list_keys.proofs.Keys.{first-mask, second-mask}
+use Rattle.list_conflicts.specs.Keys.{valuesConflict, valuesAt}
+use Rattle.list_conflicts.proofs.Keys.{first-mask, second-mask}
 use Rattle.edit_delta.specs.Picked.{Picked}
 use Rattle.edit_basics.specs.Targets.{kindsOf, held, Placed}
 use Rattle.edit_laws.proofs.Picks.{keys-apart}

@@ -8,7 +8,7 @@ use lib.Dec.{eqb}
 use lib.ListN.{length, getD}
 use Rattle.model.specs.Layout.{fields, relationAt, valueAt}
 use Rattle.model.specs.Schemas.{names}
-use Rattle.list_keys.specs.Keys.{valuesConflict, valuesAt}
+use Rattle.list_conflicts.specs.Keys.{valuesConflict, valuesAt}
 
 -- Record y of relation r, other than record but, conflicts with the values on one of two keys.
 abbrev pub clashes : List ℕ → List ℕ → ℕ → ℕ → ℕ → ℕ → List ℕ → ℕ → Bool

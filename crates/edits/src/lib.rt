@@ -25,7 +25,7 @@ pub fn insertion(
     }
     let label = edit_delta::new_label(own);
     edit_delta::draft_insertion(schema, own, delta, relation, values, &redo);
-    merge::act(own, delta);
+    merge_act::act(own, delta);
     InsertionAnswer::Inserted(label)
 }
 
@@ -48,7 +48,7 @@ pub fn update(
         return answer;
     }
     edit_delta::draft_update(schema, own, delta, index, field, value, &redo);
-    merge::act(own, delta);
+    merge_act::act(own, delta);
     answer
 }
 
@@ -64,6 +64,6 @@ pub fn deletion(schema: &[u64], own: &mut [u64], delta: &mut [u64], index: usize
         return answer;
     }
     edit_delta::draft_deletion(schema, own, delta, index, &redo);
-    merge::act(own, delta);
+    merge_act::act(own, delta);
     answer
 }

@@ -43,7 +43,7 @@ pub extern "C" fn herd_start(table: &mut [u64], replica: u64) -> u64
     ensures answer { λ r. ⌜ r ≡ startNumber (now (table .entry)) replica ⌝ }
     ensures words { λ _. ⌜ now (table .exit) ≡ startTable (now (table .entry)) replica ⌝ }
 {
-    table::start(table, replica).number()
+    table_start::start(table, replica).number()
 }
 
 // Merge for C: the answer's number.
@@ -150,7 +150,7 @@ pub extern "C" fn herd_values(table: &[u64], index: usize, first: &mut u64) -> u
     ensures answer { λ r. ⌜ r ≡ valuesNumber (now (table .entry)) index ⌝ }
     ensures word { λ _. ⌜ now (first .exit) ≡ valuesFirst (now (table .entry)) index ⌝ }
 {
-    if table::values(table, index).len() == 0 {
+    if table_start::values(table, index).len() == 0 {
         *first = 0;
         return 1;
     }

@@ -24,7 +24,7 @@ use Rattle.marks.proofs.Chain.{own-relation}
 use Rattle.references.specs.Resolved.{Marked}
 use Rattle.list_keys.specs.Buckets.{beatenOn, losesOn}
 use Rattle.list_keys.specs.Passes.{Passed, Copied}
-use Rattle.list_keys.proofs.Keys.{relation-own, records-meet}
+use Rattle.list_conflicts.proofs.Keys.{relation-own, records-meet}
 use Rattle.list_keys.proofs.Listed.{mark, member-marked, marked-member}
 use Rattle.list_keys.proofs.Bucketed.{Beating, beaten-by, by-beaten}
 

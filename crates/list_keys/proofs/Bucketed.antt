@@ -22,7 +22,7 @@ use Rattle.wellformed.proofs.Ranges.{any-at}
 use Rattle.marks.specs.Marks.{isMarked}
 use Rattle.marks.proofs.Chain.{On, one-label}
 use Rattle.list_keys.specs.Buckets.{buckets, bucketAt, keyed, beats, beatenOn, losesOn, Older, Buckets}
-use Rattle.list_keys.proofs.Keys.{relation-own}
+use Rattle.list_conflicts.proofs.Keys.{relation-own}
 use Rattle.list_keys.proofs.Digests.{conflict-left, conflict-right, conflict-bucket}
 
 pub zero-or : (n : ℕ) → (n ≡ 0) ⊎ (n ≡ 0 → ⊥)

@@ -20,9 +20,9 @@ use Rattle.model.specs.Records.{Rec, relation}
 use Rattle.model.specs.Tables.{recordOf}
 use Rattle.model.specs.WellFormed.{wellFormed}
 use Rattle.model.specs.Shown.{described, value, rest, equalOn, conflictOn}
-use Rattle.list_keys.specs.Keys.{registers, valuesConflict, valuesAt}
+use Rattle.list_conflicts.specs.Keys.{registers, valuesConflict, valuesAt}
 use Rattle.list_keys.specs.Buckets.{digests, half, spread, buckets, share, mixed, digestFrom, digestOf, bucketAt}
-use Rattle.list_keys.proofs.Keys.{partAt, part-values, fieldAgrees, onward, onward-start, onward-step, values-length, few-fields, records-on}
+use Rattle.list_conflicts.proofs.Keys.{partAt, part-values, fieldAgrees, onward, onward-start, onward-step, values-length, few-fields, records-on}
 
 -- one field more
 module _ (d m v : ℕ) where

@@ -1,4 +1,3 @@
-pub mod Keys
 pub mod Digests
 pub mod Listed
 pub mod Bucketed

@@ -12,7 +12,7 @@ use Rattle.model.specs.Schemas.{schemaOf}
 use Rattle.model.specs.Tables.{recordOf}
 use Rattle.model.specs.Shown.{conflictOn}
 use Rattle.marks.specs.Marks.{isMarked}
-use Rattle.list_keys.specs.Keys.{valuesAt}
+use Rattle.list_conflicts.specs.Keys.{valuesAt}
 
 -- One more than the largest digest, one more than the largest half of a value, the factor that spreads it, the number of buckets, and
 -- that of the digests of each.

@@ -2,21 +2,17 @@
 // one byte per record, 1 for a member and 0 for none. For each key of a relation its records are put into buckets by a digest of
 // their values, from the oldest on, and each is compared with the older ones of its bucket.
 ghost use mathlib.Core.Path.{_≡_};
-ghost use mathlib.Core.Bool.{true, false, cond, _||_, _&&_, not};
+ghost use mathlib.Core.Bool.{true, false, cond};
 ghost use Prim.Native.Nat.{_+_, _-_, _%_, _≤_, _<_};
-ghost use lib.Dec.{eqb};
 ghost use lib.ListN.{length, getD, set};
-ghost use Rattle.model.specs.Layout.{fields, mostRelations, mostRecords, usedAt, relationAt, labelAt, fieldCount, kindAt, maskAt};
-ghost use Rattle.model.specs.Lists.{listed};
-ghost use Rattle.model.specs.Schemas.{isReference, broken, schemaOf};
+ghost use Rattle.model.specs.Layout.{fields, mostRelations, mostRecords, usedAt, relationAt, labelAt, fieldCount, maskAt};
+ghost use Rattle.model.specs.Schemas.{schemaOf};
 ghost use Rattle.model.specs.Records.{inOrder};
-ghost use Rattle.model.specs.Tables.{decode, recordOf};
-ghost use Rattle.model.specs.WellFormed.{wellFormed};
-ghost use Rattle.model.specs.Shown.{equalOn, conflictOn, standing, kept};
+ghost use Rattle.model.specs.Tables.{decode};
+ghost use Rattle.model.specs.Shown.{standing, kept};
 ghost use Rattle.marks.specs.Marks.{isMarked};
 ghost use Rattle.references.specs.Order.{Checked};
 ghost use Rattle.references.specs.Resolved.{Marked};
-ghost use Rattle.list_keys.specs.Keys.{registers, valuesConflict, valuesAt};
 ghost use Rattle.list_keys.specs.Buckets.{digests, buckets, mixed, digestOf, bucketAt, keyed, beatenOn, losesOn, Buckets};
 ghost use Rattle.list_keys.specs.Passes.{Dropped, Passed, Copied};
 
@@ -31,64 +27,6 @@ const SPREAD: u64 = 663_608_941;
 const BUCKETS: usize = 4096;
 
 const SHARE: u64 = 0x4_0000;
-
-// Whether a field keeps two records in conflict: it is none of the key's, or its values are equal and no empty reference. The
-// lowest bit of `mask` says whether it is one of the key's.
-fn agrees(mask: u64, kind: u64, a: u64, b: u64) -> bool
-    ensures { λ r. ⌜ r ≡ (eqb (mask % 2) 0 || (eqb a b && not (isReference kind && eqb a 0))) ⌝ }
-{
-    (mask % 2 == 0) | ((a == b) & !((layout::ABORT <= kind) & (a == 0)))
-}
-
-// Whether values of relation `r` are equal on the fields of a key.
-fn equal_on(schema: &[u64], r: usize, mask: u64, a: &[u64], b: &[u64]) -> bool
-    requires { ⌜ (length (now a) ≡ fields) × (length (now b) ≡ fields) × (fieldCount (now schema) r ≤ fields) ⌝ }
-    ensures { λ x. ⌜ x ≡ equalOn mask (listed (fieldCount (now (schema .entry)) r) (kindAt (now (schema .entry)) r)) (registers (now (a .entry))) (registers (now (b .entry))) ⌝ }
-{
-    let count = layout::field_count(schema, r);
-    let mut m = mask;
-    let mut j: usize = 0;
-    while j < count {
-        if !agrees(m, layout::kind_at(schema, r, j + 1), a[j], b[j]) {
-            return false;
-        }
-        m = m / 2;
-        j += 1;
-    }
-    true
-}
-
-// Whether values of relation `r` conflict on a key; mask 0 is no key.
-pub fn conflict(schema: &[u64], r: usize, mask: u64, a: &[u64], b: &[u64]) -> bool
-    requires { ⌜ (length (now a) ≡ fields) × (length (now b) ≡ fields) × (fieldCount (now schema) r ≤ fields) ⌝ }
-    ensures { λ x. ⌜ x ≡ valuesConflict (now (schema .entry)) r mask (now (a .entry)) (now (b .entry)) ⌝ }
-{
-    if mask == 0 {
-        return false;
-    }
-    equal_on(schema, r, mask, a, b)
-}
-
-// Whether record `i` conflicts on a key with the values lent.
-pub fn conflicts_on(schema: &[u64], table: &[u64], mask: u64, i: usize, values: &[u64]) -> bool
-    requires { ⌜ (broken (now schema) ≡ false) × (wellFormed (now schema) (now table) ≡ true) × (1 ≤ i) × (i ≤ usedAt (now table)) × (length (now values) ≡ fields) ⌝ }
-    ensures { λ r. ⌜ r ≡ valuesConflict (now (schema .entry)) (relationAt (now (table .entry)) i) mask (valuesAt (now (table .entry)) i) (now (values .entry)) ⌝ }
-{
-    let a = layout::base(i) + layout::HEAD_WORDS;
-    let r = layout::relation_at(table, i);
-    conflict(schema, r, mask, &table[a..a + 8], values)
-}
-
-// Whether records `i` and `j` conflict on a key of the relation of record `i`.
-fn records_conflict(schema: &[u64], table: &[u64], mask: u64, i: usize, j: usize) -> bool
-    requires { ⌜ (broken (now schema) ≡ false) × (wellFormed (now schema) (now table) ≡ true) × (1 ≤ i) × (i ≤ usedAt (now table)) × (1 ≤ j) × (j ≤ usedAt (now table)) ⌝ }
-    ensures { λ r. ⌜ r ≡ conflictOn (schemaOf (now (schema .entry))) mask (recordOf (now (table .entry)) i) (recordOf (now (table .entry)) j) ⌝ }
-{
-    let r = layout::relation_at(table, i);
-    let a = layout::base(i) + layout::HEAD_WORDS;
-    let b = layout::base(j) + layout::HEAD_WORDS;
-    conflict(schema, r, mask, &table[a..a + 8], &table[b..b + 8])
-}
 
 // The digest after a field more: a field that is none of the key's leaves it as it is. The lowest bit of `mask` says whether it is
 // one of the key's.
@@ -137,7 +75,7 @@ fn is_keyed(schema: &[u64], table: &[u64], stands: &[u8], mask: u64, i: usize) -
     if !marks::is_marked(stands, i) {
         return false;
     }
-    records_conflict(schema, table, mask, i, i)
+    list_conflicts::records_conflict(schema, table, mask, i, i)
 }
 
 // Whether an older standing record of its relation conflicts with record `i` on the key: those of its bucket are asked.
@@ -156,7 +94,7 @@ fn is_beaten(
 {
     let mut at = heads[b] as usize;
     while at != 0 {
-        if records_conflict(schema, table, mask, at, i) {
+        if list_conflicts::records_conflict(schema, table, mask, at, i) {
             return true;
         }
         at = links[at - 1] as usize;

@@ -18,7 +18,7 @@ use Rattle.marks.specs.Marks.{isMarked}
 use Rattle.marks.proofs.Marks.{marked-true}
 use Rattle.references.specs.Resolved.{Resolves}
 use Rattle.references.specs.Order.{Checked}
-use Rattle.list_keys.proofs.Keys.{not-both, and-then}
+use Rattle.list_conflicts.proofs.Keys.{not-both, and-then}
 use Rattle.list_settled.specs.Rounds.{leadsOn, groundedAt, dropsAt, droppedAt, roundOf, dropsAny, ones}
 use Rattle.list_settled.proofs.Between.{Between, between-drop}
 

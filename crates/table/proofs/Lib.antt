@@ -1,4 +1,2 @@
-pub mod Rows
 pub mod Links
 pub mod Count
-pub mod Rules

@@ -8,7 +8,7 @@ use vector_stream::stream;
 
 pub fn start(fleet: &mut [u64], own: &mut [u64], slot: u64, replica: u64) -> u64 {
     let m = stream::least(slots::fetch(fleet, slot, own) as u64, own.len());
-    let got = table::start(&mut own[0..m], replica).number();
+    let got = table_start::start(&mut own[0..m], replica).number();
     slots::store(fleet, slot, own, m);
     got
 }

@@ -78,7 +78,7 @@ fn table_check(s: &[u8], taken: Inputs, schema: &[u64], own: &[u64]) -> Back {
 fn start(s: &[u8], taken: Inputs, own: &mut [u64]) -> Back {
     let m = stream::words_of(s, taken.own, own);
     let replica = number(s, taken.at);
-    let got = table::start(&mut own[0..m], replica.value).number();
+    let got = table_start::start(&mut own[0..m], replica.value).number();
     let back = items::answered(s, replica.at, taken.words, taken.sum, got);
     items::with_exit(s, back, taken.own, own)
 }
@@ -86,7 +86,7 @@ fn start(s: &[u8], taken: Inputs, own: &mut [u64]) -> Back {
 fn values_of(s: &[u8], taken: Inputs, own: &[u64]) -> Back {
     let m = stream::words_of(s, taken.own, own);
     let index = number(s, taken.at);
-    let part = table::values(&own[0..m], index.value as usize);
+    let part = table_start::values(&own[0..m], index.value as usize);
     with_part(
         s,
         items::answered(s, index.at, taken.words, taken.sum, is_empty(part)),

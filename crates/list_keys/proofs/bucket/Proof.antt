@@ -2,7 +2,7 @@
 -- Assumes nothing.
 use native.Mathlib.Omega.{arith}
 use Rattle.model.specs.Layout.{base}
-use Rattle.list_keys.proofs.Keys.{values-in, few-fields, few-of, part-length}
+use Rattle.list_conflicts.proofs.Keys.{values-in, few-fields, few-of, part-length}
 use Rattle.list_keys.proofs.Digests.{bucket-is}
 use borrow.Author.Needs.{needs}
 use Rattle.list_keys.proofs.bucket.Statement.{statement}

@@ -1,7 +1,7 @@
 -- `list_keys::is_keyed` meets its contract.
 -- Assumes nothing.
 use Rattle.list_keys.specs.Buckets.{keyed}
-use Rattle.list_keys.proofs.Keys.{not-both, and-then}
+use Rattle.list_conflicts.proofs.Keys.{not-both, and-then}
 use borrow.Author.Needs.{needs}
 use Rattle.list_keys.proofs.is_keyed.Statement.{statement}
 use Rattle.list_keys.proofs.is_keyed.Tie as tie

@@ -7,7 +7,7 @@ use lib.Dec.{eqb}
 use lib.ListN.{length, drop}
 use Rattle.model.specs.Lists.{all-of}
 use Rattle.model.specs.WellFormed.{restZero}
-use Rattle.table.proofs.Rules.{rest-first, rest-next, rest-last}
+use Rattle.table_rules.proofs.Rules.{rest-first, rest-next, rest-last}
 use borrow.Author.Needs.{needs}
 use Rattle.table.proofs.rest_zero.Statement.{statement}
 use Rattle.table.proofs.rest_zero.Tie as tie

@@ -6,7 +6,7 @@ use mathlib.Core.Bool.{_&&_}
 use borrow.Author.Tests.{not-true, not-false}
 use borrow.Author.Needs.{needs}
 use Rattle.answers.specs.Told.{told}
-use Rattle.table.proofs.Rules.{table-length, table-broken, table-ill, table-good, lengths}
+use Rattle.table_rules.proofs.Rules.{table-length, table-broken, table-ill, table-good, lengths}
 use Rattle.table.proofs.table_check.Statement.{statement}
 use Rattle.table.proofs.table_check.Tie as tie
 

@@ -5,7 +5,7 @@ use native.Mathlib.Omega.{arith}
 use borrow.Author.Tests.{not-true, not-false}
 use borrow.Author.Needs.{needs}
 use Rattle.layout.proofs.Stride.{sized, schema-sized}
-use Rattle.table.proofs.Rules.{Header, header-says, sound-relations, formed-header, formed-tested}
+use Rattle.table_rules.proofs.Rules.{Header, header-says, sound-relations, formed-header, formed-tested}
 use Rattle.table.proofs.well_formed.Statement.{statement}
 use Rattle.table.proofs.well_formed.Tie as tie
 
