@@ -21,7 +21,7 @@ use Rattle.laws.proofs.Merge.{append-distinct}
 use Rattle.laws.proofs.Lists.{_∈_}
 use Rattle.wellformed.proofs.Follow.{has-none, has-record, same-position, last-is}
 use Rattle.wellformed.proofs.Words.{enc-used}
-use Rattle.edit_delta.specs.Drafting.{linkOf, appended}
+use Rattle.edit_record.specs.Record.{linkOf, appended}
 use Rattle.merge_laws.specs.Absorb.{nth, withRecords, SoundRecord, SoundTable}
 use Rattle.merge_laws.proofs.Spell.{Spells, encode-spells, spells-encode}
 use Rattle.merge_laws.proofs.Links.{more-length, more-old, more-new, more-has, stays, leads}

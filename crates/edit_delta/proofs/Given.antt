@@ -1,18 +1,16 @@
 -- What a well-formed table gives the walk of a draft, and the empty delta that it begins with.
 -- Assumes nothing.
-use Prim.Native.Nat.{ℕ, _+_, _*_, _≤_, _<_}
-use mathlib.Core.Path.{_≡_, refl, _∙_, ap}
+use Prim.Native.Nat.{ℕ, _+_, _≤_, _<_}
+use mathlib.Core.Path.{_≡_}
 use mathlib.Core.Bool.{true}
-use mathlib.Core.List.{List, []}
+use mathlib.Core.List.{List}
 use native.Mathlib.Omega.{arith}
-use lib.ListN.{replicate, set}
 use borrow.Author.Tests.{leb-true}
 use Rattle.crdt.specs.Labels.{largestCounter, labelOf, counterOf}
 use Rattle.crdt.specs.Flags.{largestFlag}
-use Rattle.model.specs.Layout.{deltaRecords, headerWords, recordWords, replicaWord, clockWord, clockAt, usedAt, labelAt, flagAt}
+use Rattle.model.specs.Layout.{clockAt, usedAt, labelAt, flagAt}
 use Rattle.model.specs.Records.{distinct}
-use Rattle.model.specs.Tables.{Table, decode, encode, encodeHeader}
-use Rattle.wellformed.proofs.Words.{start-encodes}
+use Rattle.model.specs.Tables.{decode}
 use Rattle.wellformed.proofs.Facts.{table-sized, schema-sound, formed, Ruled, ruled, counter-label}
 use Rattle.wellformed.proofs.Values.{relation-is, label-is, label-bounds, records-distinct}
 use Rattle.wellformed.proofs.Links.{formed-first, formed-next}
@@ -48,15 +46,3 @@ source s t d m q =
       marks = q .marks;
       few = q .few;
     }
-
--- the clock of a table's words
-abbrev pub withClock : Table → ℕ → Table
-withClock v c = record { capacity = v .capacity; replica = v .replica; clock = c; records = v .records }
-
-pub clock-words : (v : Table) (c : ℕ) → set (encode v) clockWord c ≡ encode (withClock v c)
-unfolding encode encodeHeader
-clock-words v c = refl
-
--- the empty delta
-pub empty-words : (d : List ℕ) (r c : ℕ) → d ≡ replicate (headerWords + recordWords * deltaRecords) 0 → set (set d replicaWord r) clockWord c ≡ encode (record { capacity = deltaRecords; replica = r; clock = c; records = [] })
-empty-words d r c e = ap (λ (l : List ℕ). set (set l replicaWord r) clockWord c) e ∙ ap (λ (l : List ℕ). set l clockWord c) (start-encodes deltaRecords r) ∙ clock-words _ c

@@ -17,7 +17,7 @@ use Rattle.model.specs.Tables.{Table, encode}
 use Rattle.model.specs.Edits.{flagOnly}
 use Rattle.wellformed.proofs.Follow.{has-none, has-cases, has-record}
 use Rattle.wellformed.proofs.Words.{enc-used, enc-relation}
-use Rattle.edit_delta.specs.Drafting.{linkOf, appended}
+use Rattle.edit_record.specs.Record.{linkOf, appended}
 use Rattle.merge_laws.specs.Absorb.{noRec, nth, withRecords, SoundTable}
 use Rattle.merge_laws.proofs.Frames.{fits}
 use Rattle.edit_delta.proofs.Behind.{added-first, added-behind}

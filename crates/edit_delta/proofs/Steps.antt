@@ -28,7 +28,8 @@ use Rattle.laws.proofs.Drafts.{redone-flag}
 use Rattle.laws.proofs.Fields.{label-within}
 use Rattle.wellformed.proofs.Follow.{Follows, Last, follows}
 use Rattle.edit_delta.specs.Picked.{draftOf}
-use Rattle.edit_delta.specs.Drafting.{Source, Edited, existing, new, keyOf, wanted, drafted, marked, endOf, appended, stepped}
+use Rattle.edit_record.specs.Record.{marked, appended, stepped}
+use Rattle.edit_delta.specs.Drafting.{Source, Edited, existing, new, keyOf, wanted, drafted, endOf}
 use Rattle.merge_laws.specs.Absorb.{withRecords, SoundRecord, SoundTable}
 use Rattle.edit_delta.proofs.Behind.{fresh-key, fresh-flag, fresh-wide}
 use Rattle.edit_delta.proofs.Below.{under, under-rising, under-has, under-none, under-gap, under-all, under-next}

@@ -27,7 +27,8 @@ use Rattle.laws.proofs.Valid.{distinct-true}
 use Rattle.wellformed.proofs.Ranges.{listed-length, listed-at}
 use Rattle.wellformed.proofs.Follow.{has-not, has-record, position-some, same-position}
 use Rattle.edit_delta.specs.Picked.{pickedKeys, draftOf}
-use Rattle.edit_delta.specs.Drafting.{Source, marked}
+use Rattle.edit_record.specs.Record.{marked}
+use Rattle.edit_delta.specs.Drafting.{Source}
 use Rattle.merge_laws.specs.Absorb.{noRec, nth}
 
 -- what the redone records hold

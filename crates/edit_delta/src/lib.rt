@@ -1,100 +1,17 @@
 // The delta of an edit: one changed record, and those that are marked to be redone, in list order.
 ghost use mathlib.Core.Path.{_≡_};
-ghost use mathlib.Core.Bool.{cond, _&&_, true};
-ghost use mathlib.Core.List.{[]};
+ghost use mathlib.Core.Bool.{_&&_};
 ghost use Prim.Native.Nat.{_+_, _≤_, _<_};
 ghost use lib.Dec.{eqb};
-ghost use lib.ListN.{length, replicate};
-ghost use Rattle.crdt.specs.Labels.{largestCounter};
-ghost use Rattle.crdt.specs.Flags.{redone, deleted};
+ghost use lib.ListN.{length};
+ghost use Rattle.crdt.specs.Flags.{deleted};
 ghost use Rattle.crdt.specs.Cells.{reg};
-ghost use Rattle.model.specs.Layout.{fields, mostRelations, mostRecords, deltaRecords, deltaWords, clockAt, usedAt, relationAt, labelAt, flagAt};
+ghost use Rattle.model.specs.Layout.{fields, mostRelations, mostRecords, deltaWords, clockAt, relationAt, labelAt, flagAt};
 ghost use Rattle.model.specs.Records.{place};
 ghost use Rattle.model.specs.Tables.{decode, encode, recordOf};
 ghost use Rattle.model.specs.Edits.{newLabel, newRecord, flagOnly, withRegister};
 ghost use Rattle.edit_delta.specs.Picked.{draftOf};
-ghost use Rattle.edit_delta.specs.Drafting.{ReadyToInsert, ReadyToUpdate, ReadyToDelete, Source, Edited, keyOf, Walk, drafted, endOf, linkOf, appended, marked, Steppable, stepped, registered, allRegistered, Findable, Found};
-
-fn clear(delta: &mut [u64])
-    ensures { λ _. ⌜ now (delta .exit) ≡ replicate (length (now (delta .entry))) 0 ⌝ }
-{
-    let mut i = 0;
-    while i < delta.len() {
-        delta[i] = 0;
-        i += 1;
-    }
-}
-
-// An empty delta.
-fn begin(delta: &mut [u64], replica: u64, clock: u64)
-    requires { ⌜ length (now delta) ≡ deltaWords ⌝ }
-    ensures { λ _. ⌜ now (delta .exit) ≡ encode (record { capacity = deltaRecords; replica = replica; clock = clock; records = [] }) ⌝ }
-{
-    clear(delta);
-    layout::store(delta, layout::REPLICA_WORD, replica);
-    layout::store(delta, layout::CLOCK_WORD, clock);
-}
-
-// The word that links in a record of a relation behind the last record.
-fn link(delta: &[u64], relation: usize) -> usize
-    requires { ⌜ (usedAt (now delta) ≤ mostRecords) × (1 ≤ relation) × (relation ≤ mostRelations) ⌝ }
-    ensures { λ a. ⌜ a ≡ linkOf (now (delta .entry)) relation ⌝ }
-{
-    let last = layout::used(delta);
-    if (0 < last) & (layout::relation_at(delta, last) == relation) {
-        return layout::base(last);
-    }
-    layout::FIRST_WORDS + (relation - 1)
-}
-
-// Writes a record with a flag and no stamps behind the last record.
-fn append(delta: &mut [u64], relation: usize, label: u64, flag: u64)
-    requires { ⌜ (usedAt (now delta) ≤ mostRecords) × (1 ≤ relation) × (relation ≤ mostRelations) ⌝ }
-    ensures { λ _. ⌜ now (delta .exit) ≡ appended (now (delta .entry)) relation label flag ⌝ }
-{
-    let from = link(delta, relation);
-    let new = layout::used(delta) + 1;
-    let at = layout::base(new);
-    layout::store(delta, at + layout::RELATION_WORD, relation as u64);
-    layout::store(delta, at + layout::LABEL_WORD, label);
-    layout::store(delta, at + layout::FLAG_WORD, flag);
-    layout::store(delta, layout::USED_WORD, new as u64);
-    layout::store(delta, from, new as u64);
-}
-
-// Whether record `i` is to be redone.
-fn is_marked(redo: &[u8], i: usize) -> bool
-    requires { ⌜ (1 ≤ i) × (i ≤ length (now redo)) ⌝ }
-    ensures { λ r. ⌜ r ≡ marked (now (redo .entry)) i ⌝ }
-{
-    redo[i - 1] == 1
-}
-
-// The flag that the delta gives record `i`: raised where it is to be redone, and otherwise 0, unchanged.
-fn draft_flag(table: &[u64], i: usize, again: bool) -> u64
-    ensures { λ f. ⌜ f ≡ cond again (redone (flagAt (now (table .entry)) i)) 0 ⌝ }
-{
-    if again {
-        return crdt::redo(layout::flag_at(table, i));
-    }
-    0
-}
-
-// Writes record `i` of the table where it is to be redone or is the edited one, of that index.
-fn draft_record(table: &[u64], delta: &mut [u64], i: usize, index: usize, redo: &[u8])
-    requires { ⌜ Steppable (now table) (now redo) (now delta) i ⌝ }
-    ensures { λ _. ⌜ now (delta .exit) ≡ stepped (now (table .entry)) (now (redo .entry)) index (now (delta .entry)) i ⌝ }
-{
-    let again = is_marked(redo, i);
-    if again | (i == index) {
-        append(
-            delta,
-            layout::relation_at(table, i),
-            layout::label_at(table, i),
-            draft_flag(table, i, again),
-        );
-    }
-}
+ghost use Rattle.edit_delta.specs.Drafting.{ReadyToInsert, ReadyToUpdate, ReadyToDelete, Source, Edited, keyOf, Walk, drafted, endOf, registered, allRegistered, Findable, Found};
 
 // Writes those of the records of a relation, in label order.
 fn draft_chain(
@@ -110,17 +27,9 @@ fn draft_chain(
 {
     let mut i = layout::first_at(table, relation);
     while 0 < i {
-        draft_record(table, delta, i, index, redo);
+        edit_record::draft_record(table, delta, i, index, redo);
         i = layout::next_at(table, i);
     }
-}
-
-// The label of a new record, and the stamp of a new value.
-pub fn new_label(table: &[u64]) -> u64
-    requires { ⌜ clockAt (now table) < largestCounter ⌝ }
-    ensures { λ l. ⌜ l ≡ newLabel (decode (now (table .entry))) ⌝ }
-{
-    crdt::Label::of(layout::clock(table) + 1, layout::replica(table)).0
 }
 
 // Writes those of the records of a relation, and the new one, whose label is the largest.
@@ -137,7 +46,7 @@ fn draft_relation(
 {
     draft_chain(table, delta, relation, index, fresh, redo);
     if relation == fresh {
-        append(delta, relation, new_label(table), 0);
+        edit_record::append(delta, relation, edit_record::new_label(table), 0);
     }
 }
 
@@ -146,7 +55,7 @@ fn draft_records(table: &[u64], delta: &mut [u64], index: usize, fresh: usize, r
     requires { ⌜ Source (now table) (now redo) × Edited (now table) index fresh × (length (now delta) ≡ deltaWords) ⌝ }
     ensures { λ _. ⌜ now (delta .exit) ≡ encode (draftOf (now (table .entry)) (clockAt (now (table .entry))) (flagOnly fields (keyOf (now (table .entry)) index fresh) 0) (now (redo .entry))) ⌝ }
 {
-    begin(delta, layout::replica(table), layout::clock(table));
+    edit_record::begin(delta, layout::replica(table), layout::clock(table));
     let mut relation = 1;
     while relation <= layout::MOST_RELATIONS {
         draft_relation(table, delta, relation, index, fresh, redo);
@@ -208,7 +117,7 @@ pub fn draft_insertion(
     ensures { λ _. ⌜ now (delta .exit) ≡ encode (draftOf (now (table .entry)) (clockAt (now (table .entry)) + 1) (newRecord fields (decode (now (table .entry))) relation (now (values .entry))) (now (redo .entry))) ⌝ }
 {
     draft_records(table, delta, 0, relation, redo);
-    let label = new_label(table);
+    let label = edit_record::new_label(table);
     let at = find(delta, relation, label);
     write_values(delta, at, values, label);
     layout::store(delta, layout::CLOCK_WORD, layout::clock(table) + 1);
@@ -233,7 +142,7 @@ pub fn draft_update(
         layout::relation_at(table, index),
         layout::label_at(table, index),
     );
-    write_register(delta, at, field - 1, value, new_label(table));
+    write_register(delta, at, field - 1, value, edit_record::new_label(table));
     layout::store(delta, layout::CLOCK_WORD, layout::clock(table) + 1);
 }
 

@@ -23,7 +23,7 @@ pub fn insertion(
     if answer.number() != 0 {
         return answer;
     }
-    let label = edit_delta::new_label(own);
+    let label = edit_record::new_label(own);
     edit_delta::draft_insertion(schema, own, delta, relation, values, &redo);
     merge_act::act(own, delta);
     InsertionAnswer::Inserted(label)

@@ -16,7 +16,7 @@ use answers::MergeAnswer;
 fn absent(own: &[u64], link: usize, label: u64) -> usize
     ensures { λ r. ⌜ r ≡ cond (meets (now (own .entry)) link label) 0 1 ⌝ }
 {
-    if merge_act::meets(own, link, label) {
+    if merge_seek::meets(own, link, label) {
         return 0;
     }
     1
@@ -31,7 +31,7 @@ fn missing_in(own: &[u64], other: &[u64], relation: usize) -> usize
     let mut j = layout::first_at(other, relation);
     let mut count = 0;
     while 0 < j {
-        link = merge_act::seek(own, link, layout::label_at(other, j));
+        link = merge_seek::seek(own, link, layout::label_at(other, j));
         count += absent(own, link, layout::label_at(other, j));
         j = layout::next_at(other, j);
     }

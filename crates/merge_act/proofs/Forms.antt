@@ -1,85 +1,20 @@
 -- The steps of a merge in the forms in which the code asks for them.
 -- Assumes nothing.
-use Prim.Native.Nat.{ℕ, _+_, _-_, _≤_, _<_, max}
-use mathlib.Core.Path.{_≡_, refl, _∙_, ap}
-use mathlib.Core.Bool.{Bool, true, false, cond, _&&_}
+use Prim.Native.Nat.{ℕ, _+_, _≤_, _<_, max}
+use mathlib.Core.Path.{_≡_, refl, _∙_}
+use mathlib.Core.Bool.{Bool, true, false, cond}
 use mathlib.Core.List.{List}
 use native.Mathlib.Omega.{arith}
-use native.Mathlib.Numerals.{add-one}
-use lib.Dec.{eqb, ltb}
 use lib.ListN.{length, set}
 use Rattle.crdt.specs.Flags.{largestFlag}
-use Rattle.crdt.specs.Cells.{Reg, reg, joinReg}
-use Rattle.model.specs.Layout.{fields, mostRelations, mostRecords, headWords, usedWord, clockWord, word, base, clockAt, usedAt, nextAt, relationAt, labelAt, flagAt, valueAt, stampAt}
+use Rattle.model.specs.Layout.{mostRelations, mostRecords, clockWord, clockAt, usedAt, nextAt, relationAt, labelAt, flagAt}
 use Rattle.model.specs.Records.{place, position}
 use Rattle.model.specs.Tables.{Table, decode, encode, encodeHeader}
 use Rattle.model.specs.Merge.{mergedRecords, merged}
-use Rattle.merge_laws.specs.Absorb.{nth, recordsIn, withRecords, withClock, spaced, absorb, ahead, missing, Open, Takeable, Chained, Taken, Whole, Linked, precedes, meets, Sought, Seekable, Mergeable, added, fieldJoined, fieldsJoined, flagJoined, recordJoined}
-use Rattle.merge_laws.proofs.Walk.{link-on, ahead-less, used-is}
+use Rattle.merge_laws.specs.Absorb.{nth, recordsIn, withRecords, withClock, spaced, absorb, missing, Open, Takeable, Chained, Taken, Whole, Linked, meets, Sought, Seekable, Mergeable, recordJoined}
+use Rattle.merge_laws.proofs.Walk.{used-is}
 use Rattle.merge_laws.proofs.Take.{take-open, take-bounds, take-done}
 use Rattle.merge_laws.proofs.Chain.{Along, along-end, along-seek, along-take, along-on, going-linked, Counting, count-end, count-seek, count-on, count-linked, taken-all, merged-missing, missing-none}
-
-module _ (t : List ℕ) (link label i x : ℕ) where
-  pub precedes-is : i ≡ word t link → x ≡ labelAt t i → (ltb 0 i && ltb x label) ≡ precedes t link label
-  unfolding precedes
-  precedes-is e d = rw (d, e)
-
-  pub meets-is : i ≡ word t link → x ≡ labelAt t i → (ltb 0 i && eqb x label) ≡ meets t link label
-  unfolding meets
-  meets-is e d = rw (d, e)
-
-pub added-is : (t t₁ t₂ t₃ t₄ t₅ : List ℕ) (link r l next n at : ℕ) → next ≡ word t link → n ≡ usedAt t → at ≡ base (n + 1)
-    → t₁ ≡ set t at next → t₂ ≡ set t₁ (at + 1) r → t₃ ≡ set t₂ (at + 2) l → t₄ ≡ set t₃ usedWord (n + 1) → t₅ ≡ set t₄ link (n + 1) → t₅ ≡ added t link r l
-unfolding added
-added-is t t₁ t₂ t₃ t₄ t₅ link r l next n at a b c d e f g h = rw (h, g, f, e, d, c, b, a)
-
--- the walk along a chain of the own table
-module _ (t : List ℕ) (label from link : ℕ) (q : Seekable t label from) (inv : (r : ℕ) → 1 ≤ r → r ≤ mostRelations → Linked (recordsIn t) r label from → Linked (recordsIn t) r label link) where
-  pub seek-in : precedes t link label ≡ true → (1 ≤ word t link) × (word t link ≤ mostRecords)
-  seek-in p =
-      let w = q .whole in
-      let n = link-on t w (q .relation) label (q .least) (q .most) link (inv (q .relation) (q .least) (q .most) (q .linked)) p in
-      (n .0, omega (arith, n .1, w .value .room, w .value .most))
-
-  pub seek-less : precedes t link label ≡ true → (i at : ℕ) → i ≡ word t link → at ≡ base i → ahead (recordsIn t) (word t at) < ahead (recordsIn t) (word t link)
-  unfolding nextAt
-  seek-less p i at e d =
-      let w = q .whole in
-      let n = link-on t w (q .relation) label (q .least) (q .most) link (inv (q .relation) (q .least) (q .most) (q .linked)) p in
-      rw (d, e) (ahead-less t w (word t link) (n .0) (n .1))
-
-  pub seek-again : precedes t link label ≡ true → (i at : ℕ) → i ≡ word t link → at ≡ base i → (r : ℕ) → 1 ≤ r → r ≤ mostRelations → Linked (recordsIn t) r label from → Linked (recordsIn t) r label at
-  seek-again p i at e d r r₁ r₂ l = rw (d, e) (link-on t (q .whole) r label r₁ r₂ link (inv r r₁ r₂ l) p .2)
-
-  pub seek-done : precedes t link label ≡ false → (r : ℕ) → 1 ≤ r → r ≤ mostRelations → Linked (recordsIn t) r label from → Sought t r label link
-  seek-done p r r₁ r₂ l = record { linked = inv r r₁ r₂ l; stops = p }
-
-pub used-most : (t : List ℕ) → Whole t → usedAt t ≤ mostRecords
-used-most t w = omega (arith, used-is t w, w .value .room, w .value .most)
-
--- a register, the registers, the flag
-pub field-is : (t t₁ t₂ b : List ℕ) (i j f v s v' s' gv gs at : ℕ) → v ≡ valueAt t i f → s ≡ stampAt t i f → v' ≡ valueAt b j f → s' ≡ stampAt b j f
-    → reg gv gs ≡ joinReg (reg v s) (reg v' s') → at ≡ base i → t₁ ≡ set t (at + (headWords - 1) + f) gv → t₂ ≡ set t₁ (at + (headWords - 1) + fields + f) gs
-    → t₂ ≡ fieldJoined t i b j f
-unfolding fieldJoined
-field-is t t₁ t₂ b i j f v s v' s' gv gs at e₁ e₂ e₃ e₄ g h d₁ d₂ =
-    let x : reg gv gs ≡ joinReg (reg (valueAt t i f) (stampAt t i f)) (reg (valueAt b j f) (stampAt b j f)) = rw (← e₁, ← e₂, ← e₃, ← e₄) g in
-    rw (d₂, d₁, h) (ap (λ (q : Reg). set (set t (base i + (headWords - 1) + f) (q .value)) (base i + (headWords - 1) + fields + f) (q .stamp)) x)
-
-pub fields-more : (t₀ t t' b : List ℕ) (i j n : ℕ) → t ≡ fieldsJoined n t₀ i b j → t' ≡ fieldJoined t i b j (n + 1) → t' ≡ fieldsJoined (n + 1) t₀ i b j
-fields-more t₀ t t' b i j n e d = d ∙ rw (add-one n) (rw e (unfold fieldsJoined in refl))
-
-pub fields-all : (t₀ t b : List ℕ) (i j n : ℕ) → n ≤ fields → fields ≤ n → t ≡ fieldsJoined n t₀ i b j → t ≡ fieldsJoined fields t₀ i b j
-fields-all t₀ t b i j n h p e = let q : n ≡ fields = omega arith in rw q at e
-
-pub flag-is : (t t' b : List ℕ) (i j x y f at : ℕ) → x ≡ flagAt t i → y ≡ flagAt b j → flagAt t i ≤ largestFlag → flagAt b j ≤ largestFlag
-    → (x ≤ largestFlag → y ≤ largestFlag → f ≡ max x y) → at ≡ base i → t' ≡ set t (at + 3) f → t' ≡ flagJoined t i b j
-unfolding flagJoined
-flag-is t t' b i j x y f at a c m n g h e = e ∙ rw (h, g (omega arith) (omega arith), a, c)
-
-pub join-is : (t t₁ t₂ b : List ℕ) (i j : ℕ) → t₁ ≡ flagJoined t i b j → t₂ ≡ fieldsJoined fields t₁ i b j → t₂ ≡ recordJoined t i b j
-unfolding recordJoined
-join-is t t₁ t₂ b i j e d = d ∙ rw e
 
 pub absent-yes : (b c : Bool) → b ≡ c → b ≡ true → _≡_ {A = ℕ} 0 (cond c 0 1)
 absent-yes b c e h = rw (← e, h)
@@ -104,10 +39,6 @@ count-all t b wt wb n r h p e =
     let q : r ≡ mostRelations + 1 = omega arith in
     let z : n + missing (recordsIn t) (place (mostRelations + 1) 0) (recordsIn b) ≡ missing (recordsIn t) (place 1 0) (recordsIn b) = rw q at e in
     omega (arith, used-is t wt, missing-none (recordsIn t) b wb, merged-missing (recordsIn t) b wb)
-
-pub fields-none : (t b : List ℕ) (i j : ℕ) → t ≡ fieldsJoined 0 t i b j
-unfolding fieldsJoined
-fields-none t b i j = refl
 
 -- one record taken in
 module _ (t b : List ℕ) (j a r l : ℕ) (q : Takeable t b j a) (e : r ≡ relationAt b j) (d : l ≡ labelAt b j) where

@@ -1,6 +1,6 @@
 -- `list_walk::advance` meets its contract.
 -- Assumes nothing.
-use Rattle.list_walk.proofs.Steps.{place-after}
+use Rattle.list_step.proofs.Steps.{place-after}
 use borrow.Author.Needs.{needs}
 use Rattle.list_walk.proofs.advance.Statement.{statement}
 use Rattle.list_walk.proofs.advance.Tie as tie

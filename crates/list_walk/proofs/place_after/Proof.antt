@@ -1,7 +1,7 @@
 -- `list_walk::place_after` meets its contract.
 -- Assumes nothing.
 use mathlib.Core.Path.{refl}
-use Rattle.list_walk.proofs.Cursor.{zero-pick, more-pick}
+use Rattle.list_step.proofs.Cursor.{zero-pick, more-pick}
 use Rattle.list_walk.proofs.place_after.Statement.{statement}
 use Rattle.list_walk.proofs.place_after.Tie as tie
 

@@ -1,0 +1,40 @@
+-- The steps of joining a record in the forms in which the code asks for them.
+-- Assumes nothing.
+use Prim.Native.Nat.{ℕ, _+_, _-_, _≤_, max}
+use mathlib.Core.Path.{_≡_, refl, _∙_, ap}
+use mathlib.Core.List.{List}
+use native.Mathlib.Omega.{arith}
+use native.Mathlib.Numerals.{add-one}
+use lib.ListN.{set}
+use Rattle.crdt.specs.Flags.{largestFlag}
+use Rattle.crdt.specs.Cells.{Reg, reg, joinReg}
+use Rattle.model.specs.Layout.{fields, headWords, base, flagAt, valueAt, stampAt}
+use Rattle.merge_laws.specs.Absorb.{fieldJoined, fieldsJoined, flagJoined, recordJoined}
+
+-- a register, the registers, the flag
+pub field-is : (t t₁ t₂ b : List ℕ) (i j f v s v' s' gv gs at : ℕ) → v ≡ valueAt t i f → s ≡ stampAt t i f → v' ≡ valueAt b j f → s' ≡ stampAt b j f
+    → reg gv gs ≡ joinReg (reg v s) (reg v' s') → at ≡ base i → t₁ ≡ set t (at + (headWords - 1) + f) gv → t₂ ≡ set t₁ (at + (headWords - 1) + fields + f) gs
+    → t₂ ≡ fieldJoined t i b j f
+unfolding fieldJoined
+field-is t t₁ t₂ b i j f v s v' s' gv gs at e₁ e₂ e₃ e₄ g h d₁ d₂ =
+    let x : reg gv gs ≡ joinReg (reg (valueAt t i f) (stampAt t i f)) (reg (valueAt b j f) (stampAt b j f)) = rw (← e₁, ← e₂, ← e₃, ← e₄) g in
+    rw (d₂, d₁, h) (ap (λ (q : Reg). set (set t (base i + (headWords - 1) + f) (q .value)) (base i + (headWords - 1) + fields + f) (q .stamp)) x)
+
+pub fields-more : (t₀ t t' b : List ℕ) (i j n : ℕ) → t ≡ fieldsJoined n t₀ i b j → t' ≡ fieldJoined t i b j (n + 1) → t' ≡ fieldsJoined (n + 1) t₀ i b j
+fields-more t₀ t t' b i j n e d = d ∙ rw (add-one n) (rw e (unfold fieldsJoined in refl))
+
+pub fields-all : (t₀ t b : List ℕ) (i j n : ℕ) → n ≤ fields → fields ≤ n → t ≡ fieldsJoined n t₀ i b j → t ≡ fieldsJoined fields t₀ i b j
+fields-all t₀ t b i j n h p e = let q : n ≡ fields = omega arith in rw q at e
+
+pub flag-is : (t t' b : List ℕ) (i j x y f at : ℕ) → x ≡ flagAt t i → y ≡ flagAt b j → flagAt t i ≤ largestFlag → flagAt b j ≤ largestFlag
+    → (x ≤ largestFlag → y ≤ largestFlag → f ≡ max x y) → at ≡ base i → t' ≡ set t (at + 3) f → t' ≡ flagJoined t i b j
+unfolding flagJoined
+flag-is t t' b i j x y f at a c m n g h e = e ∙ rw (h, g (omega arith) (omega arith), a, c)
+
+pub join-is : (t t₁ t₂ b : List ℕ) (i j : ℕ) → t₁ ≡ flagJoined t i b j → t₂ ≡ fieldsJoined fields t₁ i b j → t₂ ≡ recordJoined t i b j
+unfolding recordJoined
+join-is t t₁ t₂ b i j e d = d ∙ rw e
+
+pub fields-none : (t b : List ℕ) (i j : ℕ) → t ≡ fieldsJoined 0 t i b j
+unfolding fieldsJoined
+fields-none t b i j = refl
