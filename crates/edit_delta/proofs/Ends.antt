@@ -28,12 +28,12 @@ use Rattle.laws.proofs.Drafts.{deleted-flag}
 use Rattle.edit_delta.specs.Picked.{pickedKeys, draftOf}
 use Rattle.edit_record.specs.Record.{marked}
 use Rattle.edit_delta.specs.Drafting.{Source, Edited, keyOf, wanted, registered, allRegistered, Findable}
-use Rattle.merge_laws.specs.Absorb.{nth, withRecords, celled, SoundTable}
+use Rattle.wellformed.proofs.Words.{clock-words}
+use Rattle.merge_laws.specs.Absorb.{nth, withRecords, celled, SoundTable, withClock}
 use Rattle.merge_laws.proofs.Frames.{flag-words, register-words}
 use Rattle.edit_delta.proofs.Behind.{fresh-key, fresh-flag, fresh-wide}
 use Rattle.edit_delta.proofs.Wanted.{nth-in, own-redone, draft-rising, draft-at, draft-new}
 use Rattle.edit_delta.proofs.Steps.{none-joined, label-new, HeldKey, NewKey, kind, own-not-new, wanted-own, wanted-new, drafted-sound, end-drafted, flag-of}
-use Rattle.edit_record.proofs.Words.{withClock, clock-words}
 use Rattle.edit_delta.proofs.Finish.{celled-order, findable, cellOf, values-words}
 
 -- registers joined with none, where one of them is stamped and the others are none

@@ -14,18 +14,10 @@ use Rattle.crdt.specs.Labels.{labelWithin}
 use Rattle.crdt.specs.Flags.{redone}
 use Rattle.crdt.proofs.Tests.{test}
 use Rattle.model.specs.Layout.{deltaRecords, deltaWords, usedWord, firstWords, headerWords, recordWords, replicaWord, clockWord, base, replicaAt, clockAt, usedAt, relationAt, labelAt, flagAt}
-use Rattle.model.specs.Tables.{decode, encode, Table, encodeHeader}
+use Rattle.model.specs.Tables.{decode, encode}
 use Rattle.model.specs.Edits.{newLabel}
-use Rattle.wellformed.proofs.Words.{start-encodes}
+use Rattle.wellformed.proofs.Words.{start-encodes, clock-words}
 use Rattle.edit_record.specs.Record.{linkOf, appended, marked, stepped}
-
--- the clock of a table's words
-abbrev pub withClock : Table → ℕ → Table
-withClock v c = record { capacity = v .capacity; replica = v .replica; clock = c; records = v .records }
-
-pub clock-words : (v : Table) (c : ℕ) → set (encode v) clockWord c ≡ encode (withClock v c)
-unfolding encode encodeHeader
-clock-words v c = refl
 
 -- the empty delta
 pub empty-words : (d : List ℕ) (r c : ℕ) → d ≡ replicate (headerWords + recordWords * deltaRecords) 0 → set (set d replicaWord r) clockWord c ≡ encode (record { capacity = deltaRecords; replica = r; clock = c; records = [] })

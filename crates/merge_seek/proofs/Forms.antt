@@ -48,3 +48,10 @@ module _ (t : List ℕ) (label from link : ℕ) (q : Seekable t label from) (inv
 
 pub used-most : (t : List ℕ) → Whole t → usedAt t ≤ mostRecords
 used-most t w = omega (arith, used-is t w, w .value .room, w .value .most)
+
+-- what a search promises, of any relation
+abbrev pub Seeks : List ℕ → ℕ → ℕ → ℕ → Type 0
+Seeks t l a a' = (r : ℕ) → 1 ≤ r → r ≤ mostRelations → Linked (recordsIn t) r l a → Sought t r l a'
+
+pub sought-at : (t b : List ℕ) (r j a l a' : ℕ) → 1 ≤ r → r ≤ mostRelations → l ≡ labelAt b j → Linked (recordsIn t) r (labelAt b j) a → Seeks t l a a' → Sought t r (labelAt b j) a'
+sought-at t b r j a l a' r₁ r₂ e k s = (rw e at s) r r₁ r₂ k

@@ -1,5 +1,5 @@
-// Where a record of the other table belongs in the own, and the place made for it. A link is the index of the word that holds the number of the next record: the first
-// word of a relation, or the next word of a record.
+// Where a record of the other table belongs in the own, and the place made for it. A link is the index of the word that holds the number of
+// the next record: the first word of a relation, or the next word of a record.
 ghost use mathlib.Core.Path.{_≡_};
 ghost use Prim.Native.Nat.{ℕ, _≤_};
 ghost use Rattle.model.specs.Layout.{mostRelations, mostRecords, usedAt};

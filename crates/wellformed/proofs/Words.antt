@@ -11,7 +11,7 @@ use lib.Seq.{getD-append-add, drop-append-add, drop-at}
 use borrow.Author.Tests.{le-leb, eq-eqb}
 use Rattle.crdt.proofs.Tests.{and-left, and-right}
 use Rattle.crdt.specs.Cells.{Reg, reg, noReg}
-use Rattle.model.specs.Layout.{fields, replicaWord, headerWords, headWords, recordWords, mostRelations, mostRecords, firstWords, zeroWord, zeroWords, word, base, capacityOf, replicaAt, clockAt, usedAt, firstAt, nextAt, relationAt, labelAt, flagAt, valueAt, stampAt}
+use Rattle.model.specs.Layout.{fields, replicaWord, clockWord, headerWords, headWords, recordWords, mostRelations, mostRecords, firstWords, zeroWord, zeroWords, word, base, capacityOf, replicaAt, clockAt, usedAt, firstAt, nextAt, relationAt, labelAt, flagAt, valueAt, stampAt}
 use Rattle.model.specs.Lists.{from, listed, only, all-of}
 use Rattle.model.specs.Schemas.{Relation}
 use Rattle.model.specs.Records.{Rec, place, relation, label, leastAbove, positionFrom}
@@ -245,3 +245,8 @@ unfolding encode encodeHeader encodeRecords listed from follower only leastAbove
 start-encodes n r =
     let e : n ≡ n - 0 = omega arith in
     rw (← (replicate-append-replicate {A = ℕ} headerWords (recordWords * n) 0)) (ap (λ (k : ℕ). r ∷ (replicate 15 0 ++ replicate (recordWords * k) 0)) e)
+
+-- A clock stored into the encoding of a value.
+pub clock-words : (v : Table) (c : ℕ) → set (encode v) clockWord c ≡ encode (record { capacity = v .capacity; replica = v .replica; clock = c; records = v .records })
+unfolding encode encodeHeader
+clock-words v c = refl

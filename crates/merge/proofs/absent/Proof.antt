@@ -1,6 +1,6 @@
 -- `merge::absent` meets its contract. 1 where the link sought does not meet the label.
 -- Assumes nothing.
-use Rattle.merge_act.proofs.Forms.{absent-yes, absent-no}
+use Rattle.merge.proofs.Counts.{absent-yes, absent-no}
 use borrow.Author.Needs.{needs}
 use Rattle.merge.proofs.absent.Statement.{statement}
 use Rattle.merge.proofs.absent.Tie as tie

@@ -7,7 +7,7 @@ use Rattle.model.specs.Layout.{mostRelations}
 use Rattle.model.specs.Records.{place}
 use Rattle.merge_laws.specs.Absorb.{recordsIn, missing}
 use Rattle.merge_laws.proofs.Chain.{missing-within}
-use Rattle.merge_act.proofs.Forms.{count-all}
+use Rattle.merge.proofs.Counts.{count-all}
 use Rattle.merge.proofs.missing.Statement.{statement}
 use Rattle.merge.proofs.missing.Tie as tie
 

@@ -2,7 +2,7 @@
 -- Assumes nothing.
 use mathlib.Core.Path.{refl}
 use native.Mathlib.Omega.{arith}
-use Rattle.merge_act.proofs.Forms.{count-seeks, count-turn, count-done, absent-small}
+use Rattle.merge.proofs.Counts.{count-seeks, count-turn, count-done, absent-small}
 use Rattle.merge_laws.specs.Absorb.{recordsIn, ahead}
 use Rattle.merge_laws.proofs.Chain.{Counting, count-start, count-within, count-less}
 use borrow.Author.Needs.{needs}
