@@ -1,7 +1,7 @@
 -- Registers, and what a table holds under a relation and a label (document 01, "Labels, registers, flags" and "Merge and edits").
 -- Assumes nothing.
 use Prim.Native.Nat.{ℕ, max}
-use mathlib.Core.Bool.{Bool, cond, _&&_, _||_}
+use mathlib.Core.Bool.{Bool, true, false, cond, _&&_, _||_, not}
 use mathlib.Core.List.{List, [], _∷_}
 use mathlib.Core.Option.{Option, none, some}
 use mathlib.Core.Path.{_≡_}
@@ -47,6 +47,21 @@ unfoldable pub joinOpt : Option Cell → Option Cell → Option Cell
 joinOpt none y = y
 joinOpt (some a) none = some a
 joinOpt (some a) (some b) = some (joinCell a b)
+
+-- "whether the value or stamp differs from before" (document 02, F-1)
+unfoldable pub regChanged : Reg → Reg → Bool
+regChanged a b = not (eqb (a .value) (b .value)) || not (eqb (a .stamp) (b .stamp))
+
+-- Whether a register differs, or there are more or fewer.
+unfoldable pub regsChanged : List Reg → List Reg → Bool
+regsChanged [] [] = false
+regsChanged [] (y ∷ ys) = true
+regsChanged (x ∷ xs) [] = true
+regsChanged (x ∷ xs) (y ∷ ys) = regChanged x y || regsChanged xs ys
+
+-- "such a change": of the flag, or of a register
+unfoldable pub cellChanged : Cell → Cell → Bool
+cellChanged a b = not (eqb (a .flag) (b .flag)) || regsChanged (a .regs) (b .regs)
 
 -- Commutative, associative, idempotent.
 pub record Semilattice {A : Type 0} (f : A → A → A) : Type 0 where

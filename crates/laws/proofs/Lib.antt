@@ -4,6 +4,7 @@ pub mod Order
 pub mod Shown
 pub mod Members
 pub mod Merge
+pub mod Changes
 pub mod Valid
 pub mod Checks
 pub mod Fields

@@ -2,3 +2,4 @@ pub mod Cases
 pub mod Examples
 pub mod Runs
 pub mod Meaning
+pub mod Changed

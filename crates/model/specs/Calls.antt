@@ -15,7 +15,7 @@ use Rattle.model.specs.Records.{Rec, has, inOrder, leastAbove, position}
 use Rattle.model.specs.Tables.{Table, decode, encode}
 use Rattle.model.specs.WellFormed.{wellFormed}
 use Rattle.model.specs.Shown.{shown}
-use Rattle.model.specs.Merge.{merged, tooMany}
+use Rattle.model.specs.Merge.{merged, tooMany, changes}
 use Rattle.model.specs.Edits.{Edit, deltaOf, editedBy, insertion, update, deletion, recordAt}
 
 -- Lengths: "97 words", "16 + 20N words, N from 0 to 4,096", "196 words", and marks "one byte per record, N bytes".
@@ -77,6 +77,10 @@ mergeNumber s own other =
 
 unfoldable pub mergeTable : List ℕ → List ℕ → List ℕ → List ℕ
 mergeTable s own other = done (mergeNumber s own other) (encode (merged (decode own) (decode other))) own
+
+-- "counted from the table before and after, and is 0 in a refused merge" (document 02, F-1)
+unfoldable pub mergeChanged : List ℕ → List ℕ → List ℕ → ℕ
+mergeChanged s own other = done (mergeNumber s own other) (changes (decode own .records) (decode (mergeTable s own other) .records)) 0
 
 -- "Marks are one byte per record, N bytes, 1 shown and 0 not."
 unfoldable pub marksOf : List ℕ → List ℕ → List ℕ

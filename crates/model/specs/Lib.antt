@@ -14,3 +14,4 @@ pub mod Demand
 pub mod Cases
 pub mod Second
 pub mod Examples
+pub mod Changed

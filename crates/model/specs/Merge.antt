@@ -1,12 +1,12 @@
 -- Merge on table values (document 01, "Merge and edits").
 -- Assumes nothing.
 use Prim.Native.Nat.{ℕ, max, _+_}
-use mathlib.Core.Bool.{Bool, not}
-use mathlib.Core.List.{List, _++_, map}
+use mathlib.Core.Bool.{Bool, cond, not}
+use mathlib.Core.List.{List, [], _∷_, _++_, map}
 use mathlib.Core.Option.{Option, none, some}
 use lib.Dec.{ltb}
 use lib.ListN.{length}
-use Rattle.crdt.specs.Cells.{Cell, joinCell}
+use Rattle.crdt.specs.Cells.{Cell, joinCell, cellChanged}
 use Rattle.model.specs.Lists.{only}
 use Rattle.model.specs.Records.{Rec, has, at, inOrder}
 use Rattle.model.specs.Tables.{Table}
@@ -36,3 +36,10 @@ merged own other =
 -- "merge needs more than N distinct records"
 unfoldable pub tooMany : Table → Table → Bool
 tooMany own other = ltb (own .capacity) (length (mergedRecords (own .records) (other .records)))
+
+-- "the number of old records with such a change plus those added", "counted from the table before and after" (document 02, F-1): position by position.
+-- An old record counts 1 however many of its registers changed; a record past the old ones was added.
+unfoldable pub changes : List Rec → List Rec → ℕ
+changes [] after = length after
+changes (x ∷ before) [] = 0
+changes (x ∷ before) (y ∷ after) = cond (cellChanged (x .cell) (y .cell)) 1 0 + changes before after

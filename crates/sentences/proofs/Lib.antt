@@ -3,3 +3,4 @@ pub mod Examples
 pub mod Refusals
 pub mod Shown
 pub mod Edges
+pub mod Changed
