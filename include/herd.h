@@ -28,7 +28,7 @@
  *
  * What all calls answer
  *   - The number of the first check that fails, in number order (enum herd_answer), or HERD_DONE.
- *   - A refused call changes no word, no mark and no place; label, shown, given and first become 0.
+ *   - A refused call changes no word, no mark and no place; changed, label, shown, given and first become 0.
  */
 #ifndef HERD_H
 #define HERD_H
@@ -41,10 +41,10 @@ extern "C" {
 #endif
 
 /*
- * The version of this header, as one number: 1.0.0 is 10000. A change of a parameter list, of a layout figure or of what a call answers
+ * The version of this header, as one number: 2.0.0 is 20000. A change of a parameter list, of a layout figure or of what a call answers
  * raises the major part, an addition the minor part, anything else the patch. CHANGELOG.md tells what changed.
  */
-#define HERD_VERSION_MAJOR 1
+#define HERD_VERSION_MAJOR 2
 #define HERD_VERSION_MINOR 0
 #define HERD_VERSION_PATCH 0
 #define HERD_VERSION (HERD_VERSION_MAJOR * 10000 + HERD_VERSION_MINOR * 100 + HERD_VERSION_PATCH)
@@ -202,7 +202,7 @@ typedef uint64_t herd_delta[HERD_DELTA_WORDS];
 #define HERD_STACK_SCHEMA_CHECK 192
 #define HERD_STACK_TABLE_CHECK 192
 #define HERD_STACK_START 128
-#define HERD_STACK_MERGE 320
+#define HERD_STACK_MERGE 448
 #define HERD_STACK_INSERT 119232
 #define HERD_STACK_UPDATE 119296
 #define HERD_STACK_DELETE 119168
@@ -246,10 +246,12 @@ HERD_CALL uint64_t herd_start(uint64_t *table, size_t table_words, uint64_t repl
  * The own replica number and the indices of the own records remain; the clock becomes the larger one.
  * Needs: room for the records of both. The two tables may have different N.
  * Answers: 0, 1, 2, 3, 4, 11.
- * Changes: own.
+ * Changes: own; *changed, the number of old records of which a value, a stamp or the flag differs from before, each counted once, plus
+ * the number of records added; 0 in a refusal. It is 0 for a copy of the own table, and where only the clock is raised. It is about the
+ * own table: a merge in the other direction may give another number. A robot sends on only if it is not 0.
  */
 HERD_CALL uint64_t herd_merge(const uint64_t *schema, size_t schema_words, uint64_t *own, size_t own_words, const uint64_t *other,
-                              size_t other_words);
+                              size_t other_words, uint64_t *changed);
 
 /*
  * Inserts a record, at index used + 1. Its label is the clock + 1 with the own replica number; the clock rises by 1.

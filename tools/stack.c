@@ -36,7 +36,7 @@ static uint64_t own[WORDS], other[WORDS];
 static herd_delta delta;
 static uint8_t marks[N];
 static uint64_t relation, values[HERD_FIELDS], value_count, record, field, value, place;
-static uint64_t label, shown, given, first;
+static uint64_t changed, label, shown, given, first;
 static volatile uint64_t answer;
 
 static void put(uint64_t *table, size_t index, uint64_t of, uint64_t counter, uint64_t flag, const uint64_t *from, size_t fields)
@@ -128,7 +128,7 @@ static void call_start(void)
 
 static void call_merge(void)
 {
-    answer = herd_merge(schema, HERD_SCHEMA_WORDS, own, WORDS, other, WORDS);
+    answer = herd_merge(schema, HERD_SCHEMA_WORDS, own, WORDS, other, WORDS, &changed);
 }
 
 static void call_insert(void)

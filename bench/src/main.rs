@@ -161,8 +161,12 @@ fn starts(subjects: &[Subject]) -> Line {
 fn merges(subjects: &[Subject]) -> Line {
     line("merge", "copy of both", subjects, |x, size| {
         let own = || x.own.clone();
+        let mut changed = 0;
+        assert_eq!(raw::merge(&x.schema, &mut own(), &x.other, &mut changed), 0);
+        let expected = second::merge(&x.schema, &mut own(), &x.other).ok();
+        assert_eq!(expected, Some(changed as usize));
         (
-            timed(times(size), own, |t| assert_eq!(raw::merge(&x.schema, t, &x.other), 0)),
+            timed(times(size), own, |t| assert_eq!(raw::merge(&x.schema, t, &x.other, &mut 0), 0)),
             timed(12, own, |t| assert!(second::merge(&x.schema, t, &x.other).is_ok())),
             copy(&[&x.own, &x.other]),
         )
@@ -297,7 +301,7 @@ fn edits(subjects: &[Subject], change: fn(&Subject, usize) -> Change) -> Vec<Lin
             times(size),
             || x.edited.clone(),
             |t| {
-                assert_eq!(raw::merge(&x.schema, t, delta), 0);
+                assert_eq!(raw::merge(&x.schema, t, delta, &mut 0), 0);
             },
         )
     };

@@ -41,9 +41,21 @@ static herd_label insert(uint64_t *table, uint64_t *delta, size_t relation, uint
     return label;
 }
 
-static void merge(uint64_t *own, const uint64_t *other, size_t other_words)
+/* The number of records that the merge changed or added. */
+static uint64_t merge(uint64_t *own, const uint64_t *other, size_t other_words)
 {
-    must("merge", herd_merge(FARM, HERD_SCHEMA_WORDS, own, WORDS, other, other_words));
+    uint64_t changed;
+    must("merge", herd_merge(FARM, HERD_SCHEMA_WORDS, own, WORDS, other, other_words, &changed));
+    return changed;
+}
+
+/* Merges a table that was received. Whether it brought news: only then the own table is sent on. */
+static int brings_news(const char *name, uint64_t *own, const uint64_t *received)
+{
+    uint64_t changed = merge(own, received, WORDS);
+    int news = changed != 0;
+    printf("%s: changed %" PRIu64 ", %s\n", name, changed, news ? "sent on" : "not sent on");
+    return news;
 }
 
 /* The index of the record with this label. */
@@ -154,9 +166,9 @@ int main(void)
     insert(office, delta, COW, 41, HERD_NONE);
     must("update", herd_update(FARM, HERD_SCHEMA_WORDS, office, WORDS, delta, HERD_DELTA_WORDS, find(office, GROUP, group), 1, 14));
 
-    /* The link is back: merge both ways. The older cow 41 keeps the tag. */
-    merge(robot, office, WORDS);
-    merge(office, robot, WORDS);
+    /* The link is back: merge both ways, until a merge brings no news. The older cow 41 keeps the tag. */
+    while (brings_news("robot", robot, office) && brings_news("office", office, robot))
+        continue;
     print_list("robot", robot);
     print_list("office", office);
     if (!agree(robot, office)) {

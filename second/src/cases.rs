@@ -109,7 +109,7 @@ fn shown_items(text: &mut String, schema: &[u64], words: &[u64], capacity: usize
 }
 
 fn register_case(text: &mut String, name: &str, a: Register, b: Register) {
-    let c = join_registers(a, b);
+    let (c, _) = join_registers(a, b);
     item(text, name, "");
     for (side, register) in [("left", a), ("right", b), ("result", c)] {
         item(text, side, &joined(&[register.value, register.stamp]));
@@ -124,7 +124,7 @@ pub fn text() -> String {
     register_case(&mut text, "C2", five, Register { value: 7, stamp: 257 });
     register_case(&mut text, "C3", Register::default(), five);
     item(&mut text, "C4", "");
-    for (side, flag) in [("left", 1), ("right", 2), ("result", join_flags(1, 2))] {
+    for (side, flag) in [("left", 1), ("right", 2), ("result", join_flags(1, 2).0)] {
         item(&mut text, side, &joined(&[flag]));
     }
     let schema = herd();

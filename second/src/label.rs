@@ -45,23 +45,32 @@ pub struct Register {
     pub stamp: u64,
 }
 
-/// The larger stamp; with equal stamps the larger value.
-pub fn join_registers(a: Register, b: Register) -> Register {
-    let by = if a.stamp != b.stamp { Rule::LargerStamp } else { Rule::LargerValue };
-    let left_is_larger = if a.stamp != b.stamp { a.stamp > b.stamp } else { a.value > b.value };
-    if rule(by) && left_is_larger {
-        a
-    } else {
-        b
-    }
+/// Whether the value or the stamp differs from before.
+pub fn register_changed(before: Register, after: Register) -> bool {
+    rule(Rule::ChangedValue) && after.value != before.value
+        || rule(Rule::ChangedStamp) && after.stamp != before.stamp
 }
 
-pub fn join_flags(a: u64, b: u64) -> u64 {
-    if rule(Rule::LargerFlag) {
-        a.max(b)
-    } else {
-        b
-    }
+/// Whether the flag differs from before.
+pub fn flag_changed(before: u64, after: u64) -> bool {
+    rule(Rule::ChangedFlag) && after != before
+}
+
+/// The larger stamp, with equal stamps the larger value; and whether it differs from `a`, which was
+/// there before.
+pub fn join_registers(a: Register, b: Register) -> (Register, bool) {
+    let by = if a.stamp != b.stamp { Rule::LargerStamp } else { Rule::LargerValue };
+    let left_is_larger = if a.stamp != b.stamp { a.stamp > b.stamp } else { a.value > b.value };
+    let joined = if rule(by) && left_is_larger { a } else { b };
+    let before = if rule(Rule::RegisterBefore) { a } else { b };
+    (joined, register_changed(before, joined))
+}
+
+/// The larger flag; and whether it differs from `a`, which was there before.
+pub fn join_flags(a: u64, b: u64) -> (u64, bool) {
+    let joined = if rule(Rule::LargerFlag) { a.max(b) } else { b };
+    let before = if rule(Rule::FlagBefore) { a } else { b };
+    (joined, flag_changed(before, joined))
 }
 
 pub fn is_deleted(flag: u64) -> bool {

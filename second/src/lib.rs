@@ -1,7 +1,8 @@
 //! The second implementation of the herd tables.
 //!
-//! It is written from document 01 and the recorded readings alone, for tests: vectors made with it
-//! are compared with what the library answers. It is in no shipped artifact.
+//! It is written from document 01, the requests of document 02 and the recorded readings alone, for
+//! tests: vectors made with it are compared with what the library answers. It is in no shipped
+//! artifact.
 //!
 //! Each call first decodes the lent words. The decoding of a broken schema, or of a table that is
 //! not well-formed, fails, and this failure is the check. An accepted call works on the decoded

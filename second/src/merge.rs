@@ -1,10 +1,10 @@
 //! Merge.
 
-use crate::label::{join_flags, join_registers};
+use crate::label::{flag_changed, join_flags, join_registers, register_changed, Register};
 use crate::layout;
 use crate::rules::{holds, rule, Rule};
 use crate::schema;
-use crate::table::{self, Table};
+use crate::table::{self, Record, Table};
 use crate::{need, Answer, Refusal};
 
 /// The merge of two decoded tables, with no regard to the capacity.
@@ -27,11 +27,11 @@ pub fn join(own: &Table, other: &Table) -> Table {
             Some(position) => {
                 let ours = &mut joined.records[*position];
                 if rule(Rule::JoinFlags) {
-                    ours.flag = join_flags(ours.flag, theirs.flag);
+                    ours.flag = join_flags(ours.flag, theirs.flag).0;
                 }
                 for (register, their) in ours.registers.iter_mut().zip(&theirs.registers) {
                     if rule(Rule::JoinRegisters) {
-                        *register = join_registers(*register, *their);
+                        *register = join_registers(*register, *their).0;
                     }
                 }
             }
@@ -42,7 +42,57 @@ pub fn join(own: &Table, other: &Table) -> Table {
     joined
 }
 
-pub fn merge(schema: &[u64], own: &mut [u64], other: &[u64]) -> Answer<()> {
+/// How many registers of a record, the flag among them, differ from before.
+fn changes(before: &Record, after: &Record) -> usize {
+    let registers = before.registers.iter().zip(&after.registers);
+    registers.filter(|(before, after)| register_changed(**before, **after)).count()
+        + flag_changed(before.flag, after.flag) as usize
+}
+
+/// What an old record counts.
+fn counts_old(before: &Record, after: &Record) -> usize {
+    let changes = changes(before, after);
+    if !rule(Rule::OldCounted) {
+        0
+    } else if !rule(Rule::OldCountedOnce) {
+        changes
+    } else {
+        holds(Rule::OldWithChange, changes > 0) as usize
+    }
+}
+
+/// What an added record counts.
+fn counts_added(record: &Record) -> usize {
+    let registers = vec![Register::default(); record.registers.len()];
+    let changes = changes(&Record { flag: 0, registers, ..*record }, record);
+    if !rule(Rule::AddedCounted) {
+        0
+    } else if !rule(Rule::AddedCountedOnce) {
+        changes
+    } else {
+        (rule(Rule::AddedCountedBare) || changes > 0) as usize
+    }
+}
+
+/// The number of old records with a change, plus those added, from the table before and after. Old
+/// positions remain, so that the records above those before are the added ones.
+fn changed(before: &Table, after: &Table) -> usize {
+    let mut number = 0;
+    for (at, record) in after.records.iter().enumerate() {
+        number += match before.records.get(at) {
+            Some(old) => counts_old(old, record),
+            None => counts_added(record),
+        };
+    }
+    if !rule(Rule::ClockNotCounted) && after.clock != before.clock {
+        number += 1;
+    }
+    number
+}
+
+/// Merges the other table into the own; gives the number of old records with a change, plus those
+/// added.
+pub fn merge(schema: &[u64], own: &mut [u64], other: &[u64]) -> Answer<usize> {
     let lengths = schema.len() == layout::SCHEMA
         && table::capacity_of(own.len()).is_some()
         && table::capacity_of(other.len()).is_some();
@@ -53,5 +103,5 @@ pub fn merge(schema: &[u64], own: &mut [u64], other: &[u64]) -> Answer<()> {
     let joined = join(&own_table, &other_table);
     need(holds(Rule::MergeFull, joined.records.len() <= joined.capacity), Refusal::Full)?;
     own.copy_from_slice(&joined.words());
-    Ok(())
+    Ok(changed(&own_table, &joined))
 }

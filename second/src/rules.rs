@@ -1,4 +1,4 @@
-//! The rules of document 01, one by one, each with its sentence.
+//! The rules of document 01 and of the requests of document 02, one by one, each with its sentence.
 //!
 //! The code asks `rule` or `holds` where a rule decides. Both are constant, but in this crate's own
 //! tests, of which one drops each rule in turn and looks for a difference in the vectors.
@@ -24,6 +24,17 @@ rules! {
     LargerValue,
     /// "Merge takes the larger." Dropped: the right side's flag.
     LargerFlag,
+    /// "Joining a register will say whether the value or stamp differs from before": the value.
+    ChangedValue,
+    /// "Joining a register will say whether the value or stamp differs from before": the stamp.
+    ChangedStamp,
+    /// "Joining a register will say whether the value or stamp differs from before": from before.
+    /// Dropped: from the right side.
+    RegisterBefore,
+    /// "joining a flag likewise".
+    ChangedFlag,
+    /// "joining a flag likewise": from before. Dropped: from the right side.
+    FlagBefore,
     /// "Deleting adds 1 to an even flag [...]; otherwise neither alters it."
     DeletesEven,
     /// "redoing adds 1 to an odd flag; otherwise neither alters it."
@@ -169,6 +180,20 @@ rules! {
     OwnReplica,
     /// Answer 11: "merge needs more than N distinct records".
     MergeFull,
+    /// "the number of old records with such a change". Dropped: old records count nothing.
+    OldCounted,
+    /// "old records with such a change". Dropped: each old record counts.
+    OldWithChange,
+    /// "the number of old records with such a change": once each. Dropped: each register and flag.
+    OldCountedOnce,
+    /// "plus those added". Dropped: added records count nothing.
+    AddedCounted,
+    /// "plus those added": once each. Dropped: each stamped register, and a flag other than 0.
+    AddedCountedOnce,
+    /// "plus those added": each of them. Dropped: not with flag 0 and no stamps.
+    AddedCountedBare,
+    /// "such a change", of a register or a flag. Dropped: a larger clock counts too.
+    ClockNotCounted,
 
     // Insertion.
     /// "the new label is clock + 1 with the own replica number": the number. Dropped: 1.

@@ -1,6 +1,7 @@
 //! The tests of the second implementation, and what they share.
 
 mod cases;
+mod changes;
 mod edges;
 mod edits;
 mod fleets;

@@ -47,6 +47,19 @@ fn find(
     Ok(found.map_or(0, |record| record.index))
 }
 
+/// Merges a table that was received. Whether it brought news: only then the own table is sent on.
+fn brings_news(
+    name: &str,
+    schema: &Schema,
+    own: &mut Table<Words>,
+    received: &Table<Words>,
+) -> Result<bool, Error> {
+    let changed = own.merge(schema, received)?;
+    let news = changed != 0;
+    println!("{name}: changed {changed}, {}", if news { "sent on" } else { "not sent on" });
+    Ok(news)
+}
+
 fn main() -> Result<(), Error> {
     assert!(herd::version_fits(), "the linked library is of version {}", herd::version());
     let schema = FARM.build()?;
@@ -66,9 +79,10 @@ fn main() -> Result<(), Error> {
     let index = find(&schema, &office, GROUP, group)?;
     office.update(&schema, &mut delta, index, 1, 14)?;
 
-    // The link is back: merge both ways. The older cow 41 keeps the tag.
-    robot.merge(&schema, &office)?;
-    office.merge(&schema, &robot)?;
+    // The link is back: merge both ways, until a merge brings no news. The older cow 41 keeps the tag.
+    while brings_news("robot", &schema, &mut robot, &office)?
+        && brings_news("office", &schema, &mut office, &robot)?
+    {}
     let agree = print_list("robot", &schema, &robot)? == print_list("office", &schema, &office)?;
 
     // The office deletes cow 40, and sends the delta alone. The cow's milking leaves the list with it.

@@ -8,7 +8,7 @@
 //!
 //! - [`SchemaBuilder`] makes a [`Schema`]: relations, fields, references, keys.
 //! - [`Table`] is started, edited and merged; each edit writes a [`Delta`], which is enough to bring
-//!   it to the other replicas.
+//!   it to the other replicas; a merge tells how many records it changed.
 //! - [`Marks`] say which records are shown, and [`List`] reads them in order.
 //! - [`words_to_bytes`] and [`words_from_bytes`] are for files and messages.
 //! - [`version_fits`] tells whether the linked library fits this crate; ask it at start-up.

@@ -24,6 +24,7 @@ mod c {
             own_words: usize,
             other: *const u64,
             other_words: usize,
+            changed: *mut u64,
         ) -> u64;
         pub fn herd_insert(
             schema: *const u64,
@@ -109,10 +110,12 @@ pub fn start(table: &mut [u64], replica: u64) -> u64 {
     unsafe { c::herd_start(table.as_mut_ptr(), table.len(), replica) }
 }
 
-/// Merges the other table into the own one: 0, 1, 2, 3, 4 or 11.
-pub fn merge(schema: &[u64], own: &mut [u64], other: &[u64]) -> u64 {
-    // SAFETY: each pointer and length are those of a borrowed slice; `own` is borrowed for writing,
-    // so that it overlaps no other one.
+/// Merges the other table into the own one: 0, 1, 2, 3, 4 or 11. `changed` becomes the number of
+/// old records of which a value, a stamp or the flag differs from before plus those added, 0 in a
+/// refusal.
+pub fn merge(schema: &[u64], own: &mut [u64], other: &[u64], changed: &mut u64) -> u64 {
+    // SAFETY: each pointer and length are those of a borrowed slice; `own` and `changed` are
+    // borrowed for writing, so that they overlap nothing else.
     unsafe {
         c::herd_merge(
             schema.as_ptr(),
@@ -121,6 +124,7 @@ pub fn merge(schema: &[u64], own: &mut [u64], other: &[u64]) -> u64 {
             own.len(),
             other.as_ptr(),
             other.len(),
+            changed,
         )
     }
 }

@@ -190,14 +190,26 @@ impl<W: AsRef<[u64]> + AsMut<[u64]>> Table<W> {
     /// Merges another table, or a delta, into this one. The other one may be words as received: the
     /// merge refuses what is no table.
     ///
+    /// Gives the number of old records of which a value, a stamp or the flag differs from before,
+    /// each counted once, plus the number of records added. It is 0 for a copy of this table, and
+    /// where only the clock is raised. It is about this table: a merge in the other direction may
+    /// give another number. A robot sends on only if it is not 0.
+    ///
     /// Refusals: [`Error::LengthOrIndex`], [`Error::OwnNotWellFormed`],
     /// [`Error::OtherNotWellFormed`], [`Error::Full`].
     ///
     /// ```
-    /// use herd::{table_words, Error, SchemaBuilder, Table};
+    /// use herd::{table_words, Delta, Error, SchemaBuilder, Table};
     ///
     /// let schema = SchemaBuilder::new().relation().plain().build()?;
     /// let mut table = Table::start([0; table_words(4)], 1)?;
+    /// let mut other = Table::start([0; table_words(4)], 2)?;
+    /// other.insert(&schema, &mut Delta::new(), 1, &[12])?;
+    ///
+    /// // The first merge brings a record, the second no news: there is nothing to send on.
+    /// assert_eq!(table.merge(&schema, &other)?, 1);
+    /// assert_eq!(table.merge(&schema, &other)?, 0);
+    ///
     /// let received = [0xff; table_words(4)];
     /// assert_eq!(table.merge(&schema, &received), Err(Error::OtherNotWellFormed));
     /// # Ok::<(), Error>(())
@@ -206,8 +218,10 @@ impl<W: AsRef<[u64]> + AsMut<[u64]>> Table<W> {
         &mut self,
         schema: &Schema<S>,
         other: &O,
-    ) -> Result<(), Error> {
-        told(raw::merge(schema.words(), self.words.as_mut(), other.as_ref()))
+    ) -> Result<usize, Error> {
+        let mut changed = 0;
+        told(raw::merge(schema.words(), self.words.as_mut(), other.as_ref(), &mut changed))?;
+        Ok(changed as usize)
     }
 
     /// Inserts a record and gives its label; it becomes the last used record. A reference is given

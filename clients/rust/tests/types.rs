@@ -1,9 +1,12 @@
 //! The types over the calls: the table of cases, the builder, the list, and random fleets through
 //! the types against the second implementation.
 
-use herd::layout::HEADER_WORDS;
+use herd::layout::{
+    record_word, CLOCK_WORD, FIRST_WORDS, HEADER_WORDS, HEAD_WORDS, LABEL_WORD, RELATION_WORD,
+    USED_WORD,
+};
 use herd::{
-    table_words, words_from_bytes, words_to_bytes, Delta, Error, Kind, Label, Marks, Schema,
+    raw, table_words, words_from_bytes, words_to_bytes, Delta, Error, Kind, Label, Marks, Schema,
     SchemaBuilder, Table, DELTA_WORDS, FIELDS, MOST_RECORDS, MOST_RELATIONS, SCHEMA_WORDS,
     WORD_BYTES,
 };
@@ -160,6 +163,52 @@ fn words_that_are_no_table_are_refused() {
 }
 
 #[test]
+fn a_merge_tells_how_many_records_it_changed() {
+    let schema = farm();
+    let mut delta = Delta::new();
+    let mut robot = Table::start([0; table_words(4)], 1).unwrap();
+    let mut office = Table::start([0; table_words(4)], 2).unwrap();
+    let group = office.insert(&schema, &mut delta, GROUP, &[12]).unwrap();
+    office.insert(&schema, &mut delta, COW, &[40, group.word()]).unwrap();
+    // Records added; none in the other direction, and none by a copy.
+    assert_eq!(robot.merge(&schema, &office), Ok(2));
+    assert_eq!(office.merge(&schema, &robot), Ok(0));
+    assert_eq!(robot.merge(&schema, &robot.clone()), Ok(0));
+    // Two registers of one record, and a register and the flag of another.
+    office.update(&schema, &mut delta, 2, 1, 41).unwrap();
+    office.update(&schema, &mut delta, 2, 2, 0).unwrap();
+    assert_eq!(robot.clone().merge(&schema, &office), Ok(1));
+    office.update(&schema, &mut delta, 1, 1, 13).unwrap();
+    office.delete(&schema, &mut delta, 1).unwrap();
+    assert_eq!(robot.merge(&schema, &office), Ok(2));
+    // The stamp alone, then the flag alone.
+    office.update(&schema, &mut delta, 2, 1, 41).unwrap();
+    assert_eq!(robot.merge(&schema, &delta), Ok(1));
+    office.delete(&schema, &mut delta, 2).unwrap();
+    assert_eq!(robot.merge(&schema, &delta), Ok(1));
+    assert_eq!(robot.merge(&schema, &delta), Ok(0));
+    // The clock alone, then a value alone, the larger one under one stamp.
+    let mut later = office.into_words();
+    later[CLOCK_WORD] += 7;
+    assert_eq!(robot.merge(&schema, &later), Ok(0));
+    assert_eq!(robot.clock(), later[CLOCK_WORD]);
+    later[record_word(1) + HEAD_WORDS] += 1;
+    assert_eq!(robot.merge(&schema, &later), Ok(1));
+    // A record with flag 0 and no stamps.
+    let mut bare = Table::start([0; table_words(1)], 3).unwrap().into_words();
+    (bare[CLOCK_WORD], bare[USED_WORD], bare[FIRST_WORDS]) = (1, 1, 1);
+    bare[record_word(1) + RELATION_WORD] = GROUP as u64;
+    bare[record_word(1) + LABEL_WORD] = Label::of(1, 3).unwrap().word();
+    assert_eq!(robot.merge(&schema, &bare), Ok(1));
+    assert_eq!(robot.merge(&schema, &bare), Ok(0));
+    // A refusal.
+    let mut changed = 7;
+    let mut own = robot.into_words();
+    assert_eq!(raw::merge(schema.words(), &mut own, &[0; 3], &mut changed), 1);
+    assert_eq!(changed, 0);
+}
+
+#[test]
 fn a_list_of_other_marks_or_another_schema_is_refused() {
     let (schema, table) = (farm(), case(5));
     let marks = Marks::of(&schema, &table, [0; 2]).unwrap();
@@ -283,9 +332,10 @@ fn fleets_through_the_types() {
             edit(&mut random, &schema, &mut office, &mut delta);
         }
         let mut words = robot.words().to_vec();
-        let answer = second::number(&second::merge(schema.words(), &mut words, office.words()));
+        let expected = second::merge(schema.words(), &mut words, office.words());
         let told = robot.merge(&schema, &office);
-        assert_eq!(told.map_or_else(Error::number, |()| 0), answer);
+        assert_eq!(told.map_or_else(Error::number, |_| 0), second::number(&expected));
+        assert_eq!(told.ok(), expected.ok());
         assert_eq!(robot.words(), words);
         let merged = told.is_ok() && office.merge(&schema, &robot).is_ok();
         for table in [&robot, &office] {

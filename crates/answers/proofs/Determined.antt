@@ -63,10 +63,10 @@ pub start-determined : Determined startTold
 start-determined = read-back startTold start-of start-back
 
 abbrev merge-of : Told → MergeAnswer
-merge-of x = cond (eqb (x .number) 0) merge.Merged (cond (eqb (x .number) 1) merge.WrongLength (cond (eqb (x .number) 2) merge.SchemaBroken (cond (eqb (x .number) 3) merge.OwnBroken (cond (eqb (x .number) 4) merge.OtherBroken merge.Full))))
+merge-of x = cond (eqb (x .number) 0) (merge.Merged (x .value)) (cond (eqb (x .number) 1) merge.WrongLength (cond (eqb (x .number) 2) merge.SchemaBroken (cond (eqb (x .number) 3) merge.OwnBroken (cond (eqb (x .number) 4) merge.OtherBroken merge.Full))))
 
 merge-back : (a : MergeAnswer) → merge-of (mergeTold a) ≡ a
-merge-back merge.Merged = refl
+merge-back (merge.Merged v) = refl
 merge-back merge.WrongLength = refl
 merge-back merge.SchemaBroken = refl
 merge-back merge.OwnBroken = refl

@@ -1,6 +1,6 @@
 -- What each case of an answer tells: the number of document 01, "What a call hands back", and the value handed back beside it, which is the new
--- label of an insertion, the shown count of marks and the index given by a walk, and 0 elsewhere; of a walk also whether the list ended. What is told
--- determines the answer (proofs/Determined.antt).
+-- label of an insertion, the shown count of marks, the index given by a walk and how many records a merge changed or added (document 02, F-1), and 0
+-- elsewhere; of a walk also whether the list ended. What is told determines the answer (proofs/Determined.antt).
 -- Assumes nothing.
 use Prim.Native.Nat.{ℕ}
 use mathlib.Core.Bool.{Bool, true, false}
@@ -56,7 +56,7 @@ startTold start.WrongLength = told 1 0
 startTold start.WrongReplica = told 5 0
 
 abbrev pub mergeTold : MergeAnswer → Told
-mergeTold merge.Merged = told 0 0
+mergeTold (merge.Merged v) = told 0 v
 mergeTold merge.WrongLength = told 1 0
 mergeTold merge.SchemaBroken = told 2 0
 mergeTold merge.OwnBroken = told 3 0

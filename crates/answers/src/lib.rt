@@ -62,9 +62,9 @@ impl StartAnswer {
     }
 }
 
-// Merge.
+// Merge, with how many records it changed or added.
 pub enum MergeAnswer {
-    Merged,
+    Merged(usize),
     WrongLength,
     SchemaBroken,
     OwnBroken,
@@ -77,12 +77,26 @@ impl MergeAnswer {
         ensures { λ r. ⌜ r ≡ mergeTold self .number ⌝ }
     {
         match self {
-            MergeAnswer::Merged => 0,
+            MergeAnswer::Merged(_) => 0,
             MergeAnswer::WrongLength => 1,
             MergeAnswer::SchemaBroken => 2,
             MergeAnswer::OwnBroken => 3,
             MergeAnswer::OtherBroken => 4,
             MergeAnswer::Full => 11,
+        }
+    }
+
+    // How many records were changed or added, 0 in a refusal.
+    pub fn changed(self) -> usize
+        ensures { λ r. ⌜ r ≡ mergeTold self .value ⌝ }
+    {
+        match self {
+            MergeAnswer::Merged(n) => n,
+            MergeAnswer::WrongLength => 0,
+            MergeAnswer::SchemaBroken => 0,
+            MergeAnswer::OwnBroken => 0,
+            MergeAnswer::OtherBroken => 0,
+            MergeAnswer::Full => 0,
         }
     }
 }

@@ -1,9 +1,11 @@
 // Labels, registers and flags: the parts that every table is made of.
 ghost use mathlib.Core.Path.{_≡_};
+ghost use mathlib.Core.Bool.{not};
 ghost use Prim.Native.Nat.{_≤_, _<_, max};
+ghost use lib.Dec.{eqb};
 ghost use Rattle.crdt.specs.Labels.{isLabel, labelWithin, counterOf, replicaOf};
 ghost use Rattle.crdt.specs.Flags.{largestFlag, deleted, redone};
-ghost use Rattle.crdt.specs.Cells.{reg, joinReg};
+ghost use Rattle.crdt.specs.Cells.{reg, joinReg, regChanged};
 
 // A label: counter × 256 + replica, or 0 for none.
 pub struct Label(pub u64);
@@ -55,8 +57,14 @@ pub struct Register {
     pub stamp: u64,
 }
 
+// A joined register, and whether its value or stamp differs from before.
+pub struct JoinedRegister {
+    pub register: Register,
+    pub changed: bool,
+}
+
 // The register with the larger stamp; with equal stamps the one with the larger value.
-pub fn join_registers(a: Register, b: Register) -> Register
+fn larger_register(a: Register, b: Register) -> Register
     ensures { λ r. ⌜ reg (r .value) (r .stamp) ≡ joinReg (reg (a .value) (a .stamp)) (reg (b .value) (b .stamp)) ⌝ }
 {
     if a.stamp < b.stamp {
@@ -70,11 +78,29 @@ pub fn join_registers(a: Register, b: Register) -> Register
     a
 }
 
+// The join of register `a`, which was there before, with register `b`.
+pub fn join_registers(a: Register, b: Register) -> JoinedRegister
+    ensures joined { λ r. ⌜ reg (r .register .value) (r .register .stamp) ≡ joinReg (reg (a .value) (a .stamp)) (reg (b .value) (b .stamp)) ⌝ }
+    ensures changed { λ r. ⌜ r .changed ≡ regChanged (reg (a .value) (a .stamp)) (reg (r .register .value) (r .register .stamp)) ⌝ }
+{
+    let value = a.value;
+    let stamp = a.stamp;
+    let register = larger_register(a, b);
+    let changed = (value != register.value) | (stamp != register.stamp);
+    JoinedRegister { register, changed }
+}
+
 // The largest flag.
 pub const LARGEST_FLAG: u64 = 65535;
 
+// A joined flag, and whether it differs from before.
+pub struct JoinedFlag {
+    pub flag: u64,
+    pub changed: bool,
+}
+
 // The larger of two flags; a number above the largest flag gives the largest flag.
-pub fn join_flags(a: u64, b: u64) -> u64
+fn larger_flag(a: u64, b: u64) -> u64
     ensures flags { λ r. ⌜ (a ≤ largestFlag → b ≤ largestFlag → r ≡ max a b) ⌝ }
     ensures left_beyond { λ r. ⌜ (largestFlag < a → r ≡ largestFlag) ⌝ }
     ensures right_beyond { λ r. ⌜ (largestFlag < b → r ≡ largestFlag) ⌝ }
@@ -86,6 +112,18 @@ pub fn join_flags(a: u64, b: u64) -> u64
         return LARGEST_FLAG;
     }
     if a < b { b } else { a }
+}
+
+// The join of flag `a`, which was there before, with flag `b`.
+pub fn join_flags(a: u64, b: u64) -> JoinedFlag
+    ensures flags { λ r. ⌜ (a ≤ largestFlag → b ≤ largestFlag → r .flag ≡ max a b) ⌝ }
+    ensures left_beyond { λ r. ⌜ (largestFlag < a → r .flag ≡ largestFlag) ⌝ }
+    ensures right_beyond { λ r. ⌜ (largestFlag < b → r .flag ≡ largestFlag) ⌝ }
+    ensures changed { λ r. ⌜ r .changed ≡ not (eqb a (r .flag)) ⌝ }
+{
+    let flag = larger_flag(a, b);
+    let changed = a != flag;
+    JoinedFlag { flag, changed }
 }
 
 // An even flag raised by 1; an odd one, and what is no flag, as it was.

@@ -4,7 +4,7 @@ use Prim.Native.Nat.{ℕ, _+_, _*_}
 
 -- A call, a parameter list, a layout figure or an answer that there was has changed or gone.
 abbrev pub major : ℕ
-major = 1
+major = 2
 
 -- Something was added, and what there was is the same.
 abbrev pub minor : ℕ
@@ -14,6 +14,6 @@ minor = 0
 abbrev pub patch : ℕ
 patch = 0
 
--- One number, which is the larger the later the version is: 1.0.0 is 10000.
+-- One number, which is the larger the later the version is: 2.0.0 is 20000.
 abbrev pub version : ℕ
 version = major * 10000 + minor * 100 + patch

@@ -1,11 +1,11 @@
 // The calls of document 01 as C functions, and the version. A slice is a pointer and a length; the answer is the page's number. No rule
 // stands here.
 ghost use mathlib.Core.Path.{_≡_};
-ghost use Rattle.model.specs.Calls.{schemaNumber, tableNumber, startNumber, startTable, valuesNumber, valuesFirst, mergeNumber, mergeTable, marksNumber, marksCount, marksMarks, walkNumber, walkGiven, walkPlace, insertionNumber, insertionLabel, insertionTable, insertionDelta, updateNumber, updateTable, updateDelta, deletionNumber, deletionTable, deletionDelta};
+ghost use Rattle.model.specs.Calls.{schemaNumber, tableNumber, startNumber, startTable, valuesNumber, valuesFirst, mergeNumber, mergeTable, mergeChanged, marksNumber, marksCount, marksMarks, walkNumber, walkGiven, walkPlace, insertionNumber, insertionLabel, insertionTable, insertionDelta, updateNumber, updateTable, updateDelta, deletionNumber, deletionTable, deletionDelta};
 ghost use Rattle.herd.specs.Version.{version};
 
 // The parts of the version. CHANGELOG.md tells when each one rises.
-const MAJOR: u64 = 1;
+const MAJOR: u64 = 2;
 
 const MINOR: u64 = 0;
 
@@ -46,13 +46,21 @@ pub extern "C" fn herd_start(table: &mut [u64], replica: u64) -> u64
     table_start::start(table, replica).number()
 }
 
-// Merge for C: the answer's number.
+// Merge for C: the answer's number; `changed` becomes the number of records changed or added, 0 in a refusal.
 #[no_mangle]
-pub extern "C" fn herd_merge(schema: &[u64], own: &mut [u64], other: &[u64]) -> u64
+pub extern "C" fn herd_merge(
+    schema: &[u64],
+    own: &mut [u64],
+    other: &[u64],
+    changed: &mut u64,
+) -> u64
     ensures answer { λ r. ⌜ r ≡ mergeNumber (now (schema .entry)) (now (own .entry)) (now (other .entry)) ⌝ }
+    ensures count { λ _. ⌜ now (changed .exit) ≡ mergeChanged (now (schema .entry)) (now (own .entry)) (now (other .entry)) ⌝ }
     ensures words { λ _. ⌜ now (own .exit) ≡ mergeTable (now (schema .entry)) (now (own .entry)) (now (other .entry)) ⌝ }
 {
-    merge::merge(schema, own, other).number()
+    let answer = merge::merge(schema, own, other);
+    *changed = answer.changed() as u64;
+    answer.number()
 }
 
 // Insertion for C: the answer's number; `label` becomes the label of the new record, 0 in a refusal.

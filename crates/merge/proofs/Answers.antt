@@ -1,7 +1,7 @@
 -- What a merge answers, check by check, and what follows from answer 0.
 -- Assumes nothing.
 use Prim.Native.Nat.{ℕ, _+_, _≤_}
-use mathlib.Core.Path.{_≡_, refl, sym, _∙_, ap}
+use mathlib.Core.Path.{_≡_, refl, sym, _∙_, ap, ap₂}
 use mathlib.Core.Bool.{Bool, true, false, cond, _&&_, not}
 use mathlib.Core.List.{List, [], _∷_}
 use mathlib.Core.Logic.{_≢_}
@@ -13,15 +13,16 @@ use Rattle.crdt.proofs.Tests.{and-left, and-right}
 use Rattle.model.specs.Layout.{mostRecords, capacityOf, usedAt}
 use Rattle.model.specs.Lists.{lowest, all-of, check}
 use Rattle.model.specs.Schemas.{broken}
-use Rattle.model.specs.Tables.{decode, encode}
+use Rattle.model.specs.Tables.{Table, decode, encode}
 use Rattle.model.specs.WellFormed.{wellFormed}
-use Rattle.model.specs.Merge.{mergedRecords, merged, tooMany}
-use Rattle.model.specs.Calls.{schemaLength, tableLength, mergeNumber, mergeTable}
+use Rattle.model.specs.Merge.{mergedRecords, merged, tooMany, changes}
+use Rattle.model.specs.Calls.{schemaLength, tableLength, mergeNumber, mergeTable, mergeChanged}
 use Rattle.laws.proofs.Checks.{passed}
+use Rattle.convergence.proofs.Tables.{merge-left}
 use Rattle.merge_laws.specs.Absorb.{recordsIn, Whole, Mergeable}
 use Rattle.merge_laws.proofs.Chain.{merged-missing, missing-within}
 use Rattle.merge_laws.proofs.Wholes.{formed-whole, formed-mergeable}
-use Rattle.model.specs.Records.{place}
+use Rattle.model.specs.Records.{Rec, place}
 use Rattle.answers.specs.Told.{Told, told}
 
 -- how many records a merge gives at most
@@ -105,6 +106,17 @@ module _ (s t b : List ℕ) where
   unfolding mergeTable
   refused-words n = rw (ne-eqb (mergeNumber s t b) 0 n)
 
+  -- the figure
+  done-figure : (n : ℕ) → 0 ≡ mergeNumber s t b → n ≡ changes (recordsIn t) (mergedRecords (recordsIn t) (recordsIn b)) → n ≡ mergeChanged s t b
+  unfolding mergeChanged merged
+  done-figure n e d =
+      let v : decode (mergeTable s t b) .records ≡ mergedRecords (recordsIn t) (recordsIn b) = ap (λ (v : Table). v .records) (merge-left s t b (sym e) .value) in
+      d ∙ ap (λ (l : List Rec). changes (recordsIn t) l) (sym v) ∙ ap (λ (k : ℕ). cond {A = ℕ} (eqb k 0) (changes (recordsIn t) (decode (mergeTable s t b) .records)) 0) e
+
+  refused-figure : mergeNumber s t b ≢ 0 → 0 ≡ mergeChanged s t b
+  unfolding mergeChanged
+  refused-figure n = rw (ne-eqb (mergeNumber s t b) 0 n)
+
 -- by what the answer tells
 module _ (s t b : List ℕ) (k : Told) (d : k ≡ told (mergeNumber s t b) 0) (n : ℕ) (e : n ≡ k .number) where
   is-number : n ≡ mergeNumber s t b
@@ -118,3 +130,9 @@ module _ (s t b : List ℕ) (k : Told) (d : k ≡ told (mergeNumber s t b) 0) (n
 
   pub done-at : n ≡ 0 → (u : List ℕ) → u ≡ encode (merged (decode t) (decode b)) → u ≡ mergeTable s t b
   done-at h u g = done-words s t b u (sym h ∙ is-number) g
+
+  pub told-refused : n ≢ 0 → k ≡ told (mergeNumber s t b) (mergeChanged s t b)
+  told-refused h = d ∙ ap (λ (x : ℕ). told (mergeNumber s t b) x) (refused-figure s t b (λ z. h (is-number ∙ z)))
+
+  pub told-done : n ≡ 0 → (x : ℕ) → x ≡ changes (recordsIn t) (mergedRecords (recordsIn t) (recordsIn b)) → told 0 x ≡ told (mergeNumber s t b) (mergeChanged s t b)
+  told-done h x g = ap₂ (λ (y z : ℕ). told y z) (sym h ∙ is-number) (done-figure s t b x (sym h ∙ is-number) g)

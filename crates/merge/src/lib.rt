@@ -8,7 +8,7 @@ ghost use Rattle.model.specs.Layout.{mostRelations, usedAt};
 ghost use Rattle.model.specs.Records.{place};
 ghost use Rattle.model.specs.Tables.{decode};
 ghost use Rattle.model.specs.Merge.{mergedRecords, merged, tooMany};
-ghost use Rattle.model.specs.Calls.{mergeNumber, mergeTable};
+ghost use Rattle.model.specs.Calls.{mergeNumber, mergeTable, mergeChanged};
 ghost use Rattle.merge_laws.specs.Absorb.{recordsIn, missing, Whole, meets};
 use answers::MergeAnswer;
 
@@ -60,7 +60,7 @@ fn is_full(own: &[u64], other: &[u64]) -> bool
     layout::capacity(own) < layout::used(own) + missing(own, other)
 }
 
-// What a merge answers. Nothing is written.
+// What a merge answers, before it counts. Nothing is written.
 fn judge(schema: &[u64], own: &[u64], other: &[u64]) -> MergeAnswer
     ensures { λ r. ⌜ mergeTold r ≡ told (mergeNumber (now (schema .entry)) (now (own .entry)) (now (other .entry))) 0 ⌝ }
 {
@@ -82,18 +82,17 @@ fn judge(schema: &[u64], own: &[u64], other: &[u64]) -> MergeAnswer
     if is_full(own, other) {
         return MergeAnswer::Full;
     }
-    MergeAnswer::Merged
+    MergeAnswer::Merged(0)
 }
 
-// Merges the other table into the own. A refusal changes no word.
+// Merges the other table into the own, and says how many records that changed or added. A refusal changes no word.
 pub fn merge(schema: &[u64], own: &mut [u64], other: &[u64]) -> MergeAnswer
-    ensures answer { λ r. ⌜ mergeTold r ≡ told (mergeNumber (now (schema .entry)) (now (own .entry)) (now (other .entry))) 0 ⌝ }
+    ensures answer { λ r. ⌜ mergeTold r ≡ told (mergeNumber (now (schema .entry)) (now (own .entry)) (now (other .entry))) (mergeChanged (now (schema .entry)) (now (own .entry)) (now (other .entry))) ⌝ }
     ensures words { λ r. ⌜ now (own .exit) ≡ mergeTable (now (schema .entry)) (now (own .entry)) (now (other .entry)) ⌝ }
 {
     let answer = judge(schema, own, other);
     if answer.number() != 0 {
         return answer;
     }
-    merge_act::act(own, other);
-    answer
+    MergeAnswer::Merged(merge_act::act(own, other))
 }

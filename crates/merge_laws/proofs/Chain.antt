@@ -8,20 +8,22 @@ use mathlib.Core.Logic.{_⊎_, inl, inr}
 use native.Mathlib.Omega.{arith}
 use lib.Dec.{ltb}
 use lib.ListN.{length, length-append, length-map}
-use Rattle.model.specs.Layout.{mostRelations, firstWords, firstAt, nextAt, relationAt, labelAt}
+use Rattle.model.specs.Layout.{mostRelations, mostRecords, firstWords, firstAt, nextAt, relationAt, labelAt}
 use Rattle.model.specs.Lists.{only}
 use Rattle.model.specs.Records.{Rec, place, relation, label, labelSpan, has, at, inOrder, Rising, distinct}
 use Rattle.model.specs.Tables.{Table, decode, encode, follower}
-use Rattle.model.specs.Merge.{joinedWith, mergedRecords}
+use Rattle.model.specs.Merge.{joinedWith, mergedRecords, changes}
 use Rattle.laws.proofs.Lists.{only-length}
 use Rattle.laws.proofs.Order.{order-rising, at-order, order-length}
 use Rattle.laws.proofs.Members.{order-rising-same}
 use Rattle.laws.proofs.Merge.{new, append-nil}
+use Rattle.laws.proofs.Changes.{changes-self, changes-within}
 use Rattle.laws.proofs.Valid.{distinct-true}
 use Rattle.wellformed.proofs.Follow.{Follows, Last, follows}
 use Rattle.merge_laws.specs.Absorb.{nth, recordsIn, withRecords, absorb, beyond, missing, ahead, SoundTable, Whole, Linked, first, meets, Sought, Seekable, Takeable, Chained, Taken, Mergeable}
 use Rattle.merge_laws.proofs.Frames.{no-zero}
 use Rattle.merge_laws.proofs.Step.{step}
+use Rattle.merge_laws.proofs.Changes.{changes-step}
 use Rattle.merge_laws.proofs.Beyond.{beyond-rising, beyond-next, beyond-last, beyond-all, beyond-none, follower-first}
 use Rattle.merge_laws.proofs.Walk.{encode-decode, whole-encode, first-is, next-is, relation-is, label-is, ahead-less, met}
 use Rattle.merge_laws.proofs.Take.{absorb-linked, linked-more, absorb-sound}
@@ -116,21 +118,28 @@ module _ (t b : List ℕ) (wt : Whole t) (wb : Whole b) (r : ℕ) (r₁ : 1 ≤ 
           let x = wb .value .sound j (in-chain .here) (in-chain .within) in
           rw of-key at (met t wt r (labelAt b j) r₁ r₂ a' s (rw of-label (x .labelled)) (omega (arith, of-label)))
 
--- Taking in: what is left to take in gives the same records.
-pub record Along (t₀ t b : List ℕ) (r j a : ℕ) : Type 0 where
+-- Taking in: what is left to take in gives the same records, and changes those that are not yet counted in n.
+pub record Along (t₀ t b : List ℕ) (r j a n : ℕ) : Type 0 where
   pub whole : Whole t
   pub kept : decode t ≡ withRecords (decode t₀) (decode t .records)
   pub going : Going t b r j a
   pub same : mergedRecords (decode t .records) (beyond (going .key) (decode b .records)) ≡ mergedRecords (decode t₀ .records) (beyond (place r 0) (decode b .records))
+  pub count : n + changes (decode t .records) (mergedRecords (decode t .records) (beyond (going .key) (decode b .records))) ≡ changes (decode t₀ .records) (mergedRecords (decode t₀ .records) (beyond (place r 0) (decode b .records)))
 
 module _ (t₀ b : List ℕ) (r : ℕ) (c : Chained t₀ b r) where
-  pub along-start : (j a : ℕ) → j ≡ firstAt b r → a ≡ firstWords + (r - 1) → Along t₀ t₀ b r j a
+  pub along-start : (j a : ℕ) → j ≡ firstAt b r → a ≡ firstWords + (r - 1) → Along t₀ t₀ b r j a 0
   unfolding going-start
-  along-start j a e d = record { whole = c .own; kept = refl; going = going-start t₀ b (c .own) (c .other) r (c .least) (c .most) j a e d; same = refl }
+  along-start j a e d = record { whole = c .own; kept = refl; going = going-start t₀ b (c .own) (c .other) r (c .least) (c .most) j a e d; same = refl; count = omega arith }
 
-  module _ (t : List ℕ) (j a : ℕ) (g : Along t₀ t b r j a) where
-    pub along-end : j ≡ 0 → Taken t₀ t (recordsIn b) (place r 0) (place (r + 1) 0)
-    along-end e = record { whole = g .whole; kept = g .kept; same = rw (going-end t b (g .whole) (c .other) r (c .least) (c .most) j a (g .going) e) at (g .same) }
+  module _ (t : List ℕ) (j a q : ℕ) (g : Along t₀ t b r j a q) where
+    pub along-end : j ≡ 0 → Taken t₀ t (recordsIn b) (place r 0) (place (r + 1) 0) q
+    along-end e =
+        let l = going-end t b (g .whole) (c .other) r (c .least) (c .most) j a (g .going) e in
+        record { whole = g .whole; kept = g .kept; same = rw l at (g .same); count = rw l at (g .count) }
+
+    -- as many as the table has room for
+    pub along-within : q ≤ mostRecords
+    along-within = omega (arith, g .count, changes-within (recordsIn t₀) (mergedRecords (recordsIn t₀) (beyond (place r 0) (recordsIn b))), c .room, c .own .value .most)
 
     module _ (n : 0 < j) where
       pub along-seek : Seekable t (labelAt b j) a
@@ -159,14 +168,22 @@ module _ (t₀ b : List ℕ) (r : ℕ) (c : Chained t₀ b r) where
             room = λ h. omega (arith, merged-more (recordsIn t) (nth (recordsIn b) j) (beyond (nth (recordsIn b) j .key) (recordsIn b)) rising h);
           }
 
-      pub along-on : (a' : ℕ) (s : Sought t r (labelAt b j) a') (t' : List ℕ) (j' : ℕ) → t' ≡ encode (withRecords (decode t) (absorb (recordsIn t) (nth (recordsIn b) j))) → j' ≡ nextAt b j → Along t₀ t' b r j' a'
+      pub along-on : (a' : ℕ) (s : Sought t r (labelAt b j) a') (t' : List ℕ) (j' x : ℕ) → t' ≡ encode (withRecords (decode t) (absorb (recordsIn t) (nth (recordsIn b) j)))
+          → x ≡ changes (recordsIn t) (absorb (recordsIn t) (nth (recordsIn b) j)) → j' ≡ nextAt b j → Along t₀ t' b r j' a' (q + x)
       unfolding going-on
-      along-on a' s t' j' e d =
+      along-on a' s t' j' z e f d =
           let x = nth (recordsIn b) j in
           let u = along-take a' s in
           let w' : SoundTable (withRecords (decode t) (absorb (recordsIn t) x)) = absorb-sound t b j a' u in
           let dc : decode t' ≡ withRecords (decode t) (absorb (recordsIn t) x) = ap decode e ∙ encode-decode (withRecords (decode t) (absorb (recordsIn t) x)) w' in
           let hd : recordsIn t' ≡ absorb (recordsIn t) x = ap (λ (v : Table). v .records) dc in
+          let ys = beyond (x .key) (recordsIn b) in
+          let wide = c .other .value .sound j (u .least) (u .most) .wide in
+          let st : mergedRecords (absorb (recordsIn t) x) ys ≡ mergedRecords (recordsIn t) (x ∷ ys) = step (recordsIn t) x ys (distinct-true (recordsIn t) (g .whole .value .single)) wide rising in
+          let before : q + changes (recordsIn t) (mergedRecords (absorb (recordsIn t) x) ys) ≡ changes (recordsIn t₀) (mergedRecords (recordsIn t₀) (beyond (place r 0) (recordsIn b))) =
+          ap (λ (l : List Rec). q + changes (recordsIn t) l) (st ∙ ap (λ (l : List Rec). mergedRecords (recordsIn t) l) (sym rest)) ∙ g .count in
+          let after : (q + z) + changes (absorb (recordsIn t) x) (mergedRecords (absorb (recordsIn t) x) ys) ≡ changes (recordsIn t₀) (mergedRecords (recordsIn t₀) (beyond (place r 0) (recordsIn b))) =
+          omega (arith, before, f, changes-step (recordsIn t) x ys wide (rising .1)) in
           record {
             whole = subst (λ (l : List ℕ). Whole l) (sym e) (whole-encode (withRecords (decode t) (absorb (recordsIn t) x)) w');
             kept = dc ∙ ap (λ (v : Table). withRecords v (absorb (recordsIn t) x)) (g .kept) ∙ ap (λ (l : List Rec). withRecords (decode t₀) l) (sym hd);
@@ -174,19 +191,25 @@ module _ (t₀ b : List ℕ) (r : ℕ) (c : Chained t₀ b r) where
                 going-on t b (g .whole) (c .other) r (c .least) (c .most) j a (g .going) n t' j' a'
                 (subst (λ (l : List Rec). Linked l r (labelAt b j) a') (sym hd) (absorb-linked (recordsIn t) x r (labelAt b j) a' (s .linked))) d;
             same =
-                ap (λ (l : List Rec). mergedRecords l (beyond (x .key) (recordsIn b))) hd
-                ∙ step (recordsIn t) x (beyond (x .key) (recordsIn b)) (distinct-true (recordsIn t) (g .whole .value .single)) (c .other .value .sound j (u .least) (u .most) .wide) rising ∙ same-rest;
+                ap (λ (l : List Rec). mergedRecords l (beyond (x .key) (recordsIn b))) hd ∙ st ∙ same-rest;
+            count = ap (λ (l : List Rec). (q + z) + changes l (mergedRecords l (beyond (x .key) (recordsIn b)))) hd ∙ after;
           }
 
       pub along-less : (j' : ℕ) → j' ≡ nextAt b j → ahead (recordsIn b) j' < ahead (recordsIn b) j
       along-less j' e = going-less t b (g .whole) (c .other) r (c .least) (c .most) j a (g .going) n j' e
 
 -- All chains.
-pub taken-none : (t b : List ℕ) (k : ℕ) → Whole t → Taken t t (recordsIn b) k k
-taken-none t b k w = record { whole = w; kept = refl; same = refl }
+pub taken-none : (t b : List ℕ) (k : ℕ) → Whole t → Taken t t (recordsIn b) k k 0
+taken-none t b k w = record { whole = w; kept = refl; same = refl; count = omega arith }
 
-pub taken-more : (t₀ t t' : List ℕ) (o : List Rec) (k m n : ℕ) → Taken t₀ t o k m → Taken t t' o m n → Taken t₀ t' o k n
-taken-more t₀ t t' o k m n a b = record { whole = b .whole; kept = b .kept ∙ ap (λ (v : Table). withRecords v (recordsIn t')) (a .kept); same = b .same ∙ a .same }
+pub taken-more : (t₀ t t' : List ℕ) (o : List Rec) (k m n x y : ℕ) → Taken t₀ t o k m x → Taken t t' o m n y → Taken t₀ t' o k n (x + y)
+taken-more t₀ t t' o k m n x y a b =
+    record {
+      whole = b .whole;
+      kept = b .kept ∙ ap (λ (v : Table). withRecords v (recordsIn t')) (a .kept);
+      same = b .same ∙ a .same;
+      count = omega (arith, a .count, b .count);
+    }
 
 map-none : (s : List Rec) → map (joinedWith []) s ≡ s
 unfolding joinedWith at
@@ -210,16 +233,28 @@ module _ (t₀ b : List ℕ) (m : Mergeable t₀ b) where
   first-rest : mergedRecords (recordsIn t₀) (beyond (place 1 0) (recordsIn b)) ≡ mergedRecords (recordsIn t₀) (recordsIn b)
   first-rest = ap (λ (l : List Rec). mergedRecords (recordsIn t₀) l) (beyond-all (decode b) (m .other .value)) ∙ merged-order (recordsIn t₀) (recordsIn b)
 
-  pub chained : (t : List ℕ) (r : ℕ) → 1 ≤ r → r ≤ mostRelations → Taken t₀ t (recordsIn b) (place 1 0) (place r 0) → Chained t b r
-  chained t r r₁ r₂ k =
+  pub chained : (t : List ℕ) (r n : ℕ) → 1 ≤ r → r ≤ mostRelations → Taken t₀ t (recordsIn b) (place 1 0) (place r 0) n → Chained t b r
+  chained t r n r₁ r₂ k =
       let e : decode t .capacity ≡ decode t₀ .capacity = ap (λ (v : Table). v .capacity) (k .kept) in
       record { own = k .whole; other = m .other; least = r₁; most = r₂; room = omega (arith, ap length (k .same ∙ first-rest), m .room) }
 
-  pub taken-all : (t : List ℕ) → Taken t₀ t (recordsIn b) (place 1 0) (place (mostRelations + 1) 0) → t ≡ encode (withRecords (decode t₀) (mergedRecords (recordsIn t₀) (recordsIn b)))
-  taken-all t k =
-      let e : recordsIn t ≡ mergedRecords (recordsIn t₀) (recordsIn b) =
-      sym (merged-none (recordsIn t)) ∙ ap (λ (l : List Rec). mergedRecords (recordsIn t) l) (sym (beyond-none (decode b) (m .other .value))) ∙ k .same ∙ first-rest in
-      sym (k .whole .words) ∙ ap encode (k .kept ∙ ap (λ (l : List Rec). withRecords (decode t₀) l) e)
+  -- as many as the table has room for
+  pub taken-within : (t : List ℕ) (k n : ℕ) → Taken t₀ t (recordsIn b) (place 1 0) k n → n ≤ mostRecords
+  taken-within t k n h =
+      omega (arith, h .count, changes-within (recordsIn t₀) (mergedRecords (recordsIn t₀) (beyond (place 1 0) (recordsIn b))), ap length first-rest, m .room, m .own .value .most)
+
+  module _ (t : List ℕ) (n : ℕ) (k : Taken t₀ t (recordsIn b) (place 1 0) (place (mostRelations + 1) 0) n) where
+    none-left : mergedRecords (recordsIn t) (beyond (place (mostRelations + 1) 0) (recordsIn b)) ≡ recordsIn t
+    none-left = ap (λ (l : List Rec). mergedRecords (recordsIn t) l) (beyond-none (decode b) (m .other .value)) ∙ merged-none (recordsIn t)
+
+    pub taken-all : t ≡ encode (withRecords (decode t₀) (mergedRecords (recordsIn t₀) (recordsIn b)))
+    taken-all =
+        let e : recordsIn t ≡ mergedRecords (recordsIn t₀) (recordsIn b) = sym none-left ∙ k .same ∙ first-rest in
+        sym (k .whole .words) ∙ ap encode (k .kept ∙ ap (λ (l : List Rec). withRecords (decode t₀) l) e)
+
+    pub taken-count : n ≡ changes (recordsIn t₀) (mergedRecords (recordsIn t₀) (recordsIn b))
+    taken-count =
+        omega (arith, k .count, ap (λ (l : List Rec). changes (recordsIn t) l) none-left, changes-self (recordsIn t), ap (λ (l : List Rec). changes (recordsIn t₀) l) first-rest)
 
 -- Counting.
 pub record Counting (t b : List ℕ) (r j a n : ℕ) : Type 0 where

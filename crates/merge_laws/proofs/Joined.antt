@@ -2,7 +2,7 @@
 -- Assumes nothing.
 use Prim.Native.Nat.{ℕ, zero, suc, _+_, _-_, _≤_, _<_, max}
 use mathlib.Core.Path.{_≡_, refl, sym, _∙_, ap, ap₂}
-use mathlib.Core.Bool.{true, false}
+use mathlib.Core.Bool.{Bool, true, false, _||_, not}
 use mathlib.Core.List.{List, [], _∷_}
 use mathlib.Core.Logic.{_⊎_, inl, inr}
 use native.Mathlib.Omega.{arith}
@@ -11,13 +11,13 @@ use lib.ListN.{length, getD, set, length-set}
 use lib.Seq.{getD-set-same, getD-set-other, set-set, set-getD, ext-getD}
 use borrow.Author.Tests.{eqb-true, eqb-false}
 use Rattle.crdt.specs.Flags.{largestFlag}
-use Rattle.crdt.specs.Cells.{Reg, reg, noReg, Cell, joinReg, joinRegs, joinCell}
-use Rattle.crdt.proofs.Tests.{test}
+use Rattle.crdt.specs.Cells.{Reg, reg, noReg, Cell, joinReg, joinRegs, joinCell, regChanged, regsChanged, cellChanged}
+use Rattle.crdt.proofs.Tests.{test, or-off}
 use Rattle.model.specs.Layout.{fields, headWords, base, flagAt, valueAt, stampAt}
 use Rattle.model.specs.Records.{Rec}
 use Rattle.model.specs.Tables.{Table, encode, recordOf}
 use Rattle.wellformed.proofs.Ranges.{listed-at, listed-length}
-use Rattle.merge_laws.specs.Absorb.{noRec, nth, withRecords, celled, joinedAt, SoundTable, fieldJoined, fieldsJoined, flagJoined, recordJoined}
+use Rattle.merge_laws.specs.Absorb.{noRec, nth, withRecords, celled, joinedAt, SoundTable, fieldJoined, fieldsJoined, flagJoined, recordJoined, fieldChanged, fieldsChanged, flagChanged, recordChanged}
 use Rattle.merge_laws.proofs.Spell.{encode-spells}
 use Rattle.merge_laws.proofs.Frames.{fits, celled-here, celled-length, celled-sound, flag-words, register-words}
 
@@ -65,6 +65,33 @@ below-all xs ys n e d =
     let g : length xs ≡ length ys = e ∙ sym d in
     ext-getD noReg _ _ (below-length n xs ys ∙ sym (join-length xs ys g))
     (λ j h. let l : j < length xs = omega (arith, below-length n xs ys) in below-at n xs ys j (omega arith) l ∙ sym (join-at xs ys j l g))
+
+-- whether one of the first n registers changes
+changedBelow : ℕ → List Reg → List Reg → Bool
+changedBelow zero xs ys = false
+changedBelow (suc n) xs ys = changedBelow n xs ys || regChanged (getD xs n noReg) (joinReg (getD xs n noReg) (getD ys n noReg))
+
+or-assoc : (a b c : Bool) → ((a || b) || c) ≡ (a || (b || c))
+or-assoc true b c = refl
+or-assoc false b c = refl
+
+changed-first : (n : ℕ) (x y : Reg) (xs ys : List Reg) → changedBelow (suc n) (x ∷ xs) (y ∷ ys) ≡ (regChanged x (joinReg x y) || changedBelow n xs ys)
+unfolding changedBelow
+changed-first zero x y xs ys = sym (or-off (regChanged x (joinReg x y)))
+changed-first (suc n) x y xs ys =
+    let g = getD xs n noReg in
+    let h = getD ys n noReg in
+    ap (λ (b : Bool). b || regChanged (getD xs n noReg) (joinReg (getD xs n noReg) (getD ys n noReg))) (changed-first n x y xs ys)
+    ∙ or-assoc (regChanged x (joinReg x y)) (changedBelow n xs ys) (regChanged g (joinReg g h))
+
+changed-all : (xs ys : List Reg) (n : ℕ) → length xs ≡ n → length ys ≡ n → changedBelow n xs ys ≡ regsChanged xs (joinRegs xs ys)
+unfolding joinRegs regsChanged
+changed-all [] [] zero e d = unfold changedBelow in refl
+changed-all [] (y ∷ ys) zero e d = absurd (omega arith)
+changed-all [] ys (suc n) e d = absurd (omega arith)
+changed-all (x ∷ xs) ys zero e d = absurd (omega arith)
+changed-all (x ∷ xs) [] (suc n) e d = absurd (omega arith)
+changed-all (x ∷ xs) (y ∷ ys) (suc n) e d = changed-first n x y xs ys ∙ ap (λ (b : Bool). regChanged x (joinReg x y) || b) (changed-all xs ys n (omega arith) (omega arith))
 
 celled-twice : (s : List Rec) (p : ℕ) (c d : Cell) → 1 ≤ p → p ≤ length s → celled (celled s p c) p d ≡ celled s p d
 unfolding celled
@@ -160,3 +187,46 @@ module _ (p : ℕ) (a : 1 ≤ p) (b : List ℕ) (i : ℕ) where
       ∙ ap (λ (z : Rec). encode (withRecords v (celled (celled s p c) p (record { flag = z .cell .flag; regs = joinedBelow fields (z .cell .regs) (y .cell .regs) })))) e
       ∙ ap (λ (q : List Reg). encode (withRecords v (celled (celled s p c) p (record { flag = c .flag; regs = q })))) (below-all (x .cell .regs) (y .cell .regs) fields (n .wide) regs-length)
       ∙ ap (λ (l : List Rec). encode (withRecords v l)) (celled-twice s p c _ a m)
+
+  -- Whether it changes: the flag, or one of the registers.
+  field-changes : (v : Table) (w : SoundTable v) (m : p ≤ length (v .records)) (j : ℕ) → j < fields
+      → fieldChanged (encode v) p b i (suc j) ≡ regChanged (getD (nth (v .records) p .cell .regs) j noReg) (joinReg (getD (nth (v .records) p .cell .regs) j noReg) (getD regs j noReg))
+  unfolding fieldChanged
+  field-changes v w m j h = ap₂ (λ (g k : Reg). regChanged g (joinReg g k)) (own-reg v w m j h) (sym (regs-at j h))
+
+  fields-changes : (v : Table) (w : SoundTable v) (m : p ≤ length (v .records)) (n : ℕ) → n ≤ fields
+      → fieldsChanged n (encode v) p b i ≡ changedBelow n (nth (v .records) p .cell .regs) regs
+  unfolding fieldsChanged changedBelow
+  fields-changes v w m zero h = refl
+  fields-changes v w m (suc n) h =
+      let s = v .records in
+      let x = w .sound p a m in
+      let c = cellAfter v n in
+      let e : nth (celled s p c) p ≡ record { key = nth s p .key; cell = c } = celled-here s p c a m in
+      let w' : SoundTable (withRecords v (celled s p c)) = celled-sound v w p a m c (x .flagged) (below-length n _ _ ∙ x .wide) in
+      ap₂ _||_ (fields-changes v w m n (omega arith))
+      (ap (λ (t : List ℕ). fieldChanged t p b i (suc n)) (fields-words v w m n (omega arith))
+      ∙ field-changes (withRecords v (celled s p c)) w' (omega (arith, celled-length s p c)) n (omega arith)
+      ∙ ap (λ (y : Rec). regChanged (getD (y .cell .regs) n noReg) (joinReg (getD (y .cell .regs) n noReg) (getD regs n noReg))) e
+      ∙ ap (λ (g : Reg). regChanged g (joinReg g (getD regs n noReg))) (below-later n (nth s p .cell .regs) regs n (omega arith)))
+
+  pub record-changes : (v : Table) → SoundTable v → p ≤ length (v .records) → recordOf b i .cell .flag ≤ largestFlag
+      → recordChanged (encode v) p b i ≡ cellChanged (nth (v .records) p .cell) (joinCell (nth (v .records) p .cell) (recordOf b i .cell))
+  unfolding recordChanged cellChanged joinCell regs
+  record-changes v w m f =
+      let s = v .records in
+      let x = nth s p in
+      let y = recordOf b i in
+      let c : Cell = record { flag = max (x .cell .flag) (y .cell .flag); regs = x .cell .regs } in
+      let e : nth (celled s p c) p ≡ record { key = nth s p .key; cell = c } = celled-here s p c a m in
+      let n = w .sound p a m in
+      let w' : SoundTable (withRecords v (celled s p c)) = celled-sound v w p a m c (omega (arith, n .flagged)) (n .wide) in
+      ap₂ _||_ (flag-changes v w m)
+      (ap (λ (t : List ℕ). fieldsChanged fields t p b i) (flag-step v w m f)
+      ∙ fields-changes (withRecords v (celled s p c)) w' (omega (arith, celled-length s p c)) fields (omega arith)
+      ∙ ap (λ (z : Rec). changedBelow fields (z .cell .regs) (y .cell .regs)) e
+      ∙ changed-all (x .cell .regs) (y .cell .regs) fields (n .wide) regs-length)
+    where
+      flag-changes : (v : Table) (w : SoundTable v) (m : p ≤ length (v .records))
+          → flagChanged (encode v) p b i ≡ not (eqb (nth (v .records) p .cell .flag) (max (nth (v .records) p .cell .flag) (recordOf b i .cell .flag)))
+      flag-changes v w m = unfold flagChanged flagAt recordOf in rw (encode-spells v (fits v w) .flags p a m)

@@ -4,6 +4,7 @@ pub mod Frames
 pub mod Added
 pub mod Joined
 pub mod Step
+pub mod Changes
 pub mod Beyond
 pub mod Walk
 pub mod Take

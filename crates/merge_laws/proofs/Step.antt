@@ -25,19 +25,19 @@ use Rattle.merge_laws.proofs.Links.{has-last}
 use Rattle.merge_laws.proofs.Added.{blank-key}
 
 -- record y joined into the record of its key, or added at the end
-pub taken : Rec → List Rec → List Rec
+unfoldable pub taken : Rec → List Rec → List Rec
 taken y [] = y ∷ []
 taken y (x ∷ xs) = let r = taken y xs in cond (eqb (y .key) (x .key)) (record { key = x .key; cell = joinCell (x .cell) (y .cell) } ∷ xs) (x ∷ r)
 
-taken-here : (y x : Rec) (xs : List Rec) → y .key ≡ x .key → taken y (x ∷ xs) ≡ record { key = x .key; cell = joinCell (x .cell) (y .cell) } ∷ xs
+pub taken-here : (y x : Rec) (xs : List Rec) → y .key ≡ x .key → taken y (x ∷ xs) ≡ record { key = x .key; cell = joinCell (x .cell) (y .cell) } ∷ xs
 unfolding taken
 taken-here y x xs e = rw (eq-eqb (y .key) (x .key) e)
 
-taken-there : (y x : Rec) (xs : List Rec) → y .key ≢ x .key → taken y (x ∷ xs) ≡ x ∷ taken y xs
+pub taken-there : (y x : Rec) (xs : List Rec) → y .key ≢ x .key → taken y (x ∷ xs) ≡ x ∷ taken y xs
 unfolding taken
 taken-there y x xs e = rw (ne-eqb (y .key) (x .key) e)
 
-taken-new : (y : Rec) (s : List Rec) → has s (y .key) ≡ false → taken y s ≡ s ++ (y ∷ [])
+pub taken-new : (y : Rec) (s : List Rec) → has s (y .key) ≡ false → taken y s ≡ s ++ (y ∷ [])
 taken-new y [] h = unfold taken in refl
 taken-new y (x ∷ xs) h = let n = has-not x xs (y .key) h in taken-there y x xs (n .0) ∙ ap (λ (l : List Rec). x ∷ l) (taken-new y xs (n .1))
 
@@ -147,7 +147,7 @@ joined-other : (y : Rec) (ys : List Rec) (x : Rec) → x .key ≢ y .key → joi
 unfolding joinedWith
 joined-other y ys x n = rw (at-tail (x .key) y ys n)
 
-joined-none : (ys : List Rec) (x : Rec) (b : ℕ) → Rising b ys → x .key < b → joinedWith ys x ≡ x
+pub joined-none : (ys : List Rec) (x : Rec) (b : ℕ) → Rising b ys → x .key < b → joinedWith ys x ≡ x
 unfolding joinedWith
 joined-none ys x b r h = rw (at-below (x .key) b ys h r)
 

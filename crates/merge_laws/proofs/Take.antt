@@ -1,27 +1,31 @@
 -- One record of another table taken in, and the records of a chain.
 -- Assumes nothing.
 use Prim.Native.Nat.{ℕ, _+_, _-_, _/_, _%_, _≤_}
-use mathlib.Core.Path.{_≡_, refl, sym, _∙_, ap}
-use mathlib.Core.Bool.{true, false}
+use mathlib.Core.Path.{_≡_, refl, sym, _∙_, ap, ap₂}
+use mathlib.Core.Bool.{Bool, true, false, cond, _||_}
 use mathlib.Core.List.{List, [], _∷_, _++_}
 use mathlib.Core.Logic.{_⊎_, inl, inr}
 use native.Mathlib.Omega.{arith}
+use lib.Dec.{ltb}
 use lib.ListN.{length}
+use borrow.Author.Tests.{lt-ltb, le-ltb}
 use Rattle.crdt.specs.Flags.{largestFlag}
-use Rattle.crdt.specs.Cells.{joinCell}
-use Rattle.crdt.proofs.Tests.{test}
+use Rattle.crdt.specs.Cells.{joinCell, cellChanged}
+use Rattle.crdt.proofs.Tests.{test, or-right, or-off}
 use Rattle.model.specs.Layout.{mostRecords, word, usedAt, relationAt, labelAt, flagAt}
 use Rattle.model.specs.Records.{Rec, place, relation, label, labelSpan, has, distinct, position}
 use Rattle.model.specs.Tables.{Table, decode, encode, recordOf}
+use Rattle.model.specs.Merge.{changes}
 use Rattle.wellformed.proofs.Follow.{position-some, position-at, Placed}
 use Rattle.wellformed.proofs.Words.{enc-used}
-use Rattle.merge_laws.specs.Absorb.{nth, recordsIn, withRecords, blank, spaced, joinedAt, absorb, SoundRecord, SoundTable, Whole, Linked, first, next, meets, Open, Takeable, added, recordJoined}
+use Rattle.merge_laws.specs.Absorb.{nth, recordsIn, withRecords, blank, spaced, joinedAt, absorb, SoundRecord, SoundTable, Whole, Linked, first, next, meets, Open, Takeable, added, recordJoined, recordChanged}
 use Rattle.merge_laws.proofs.Links.{more-length, more-old, more-new}
 use Rattle.merge_laws.proofs.Frames.{celled-sound, celled-key, celled-length}
 use Rattle.merge_laws.proofs.Added.{blank-key, more-sound}
-use Rattle.merge_laws.proofs.Joined.{join-length, record-words}
+use Rattle.merge_laws.proofs.Joined.{join-length, record-words, record-changes}
 use Rattle.merge_laws.proofs.Step.{blank-last}
-use Rattle.merge_laws.proofs.Walk.{encode-decode, whole-encode, record-is, relation-is, label-is, flag-is, found, not-found, added-there}
+use Rattle.merge_laws.proofs.Changes.{absorb-changes}
+use Rattle.merge_laws.proofs.Walk.{encode-decode, whole-encode, used-is, record-is, relation-is, label-is, flag-is, found, not-found, added-there}
 
 -- records with one of key k
 module _ (s : List Rec) (k : ℕ) where
@@ -158,6 +162,48 @@ module _ (t b : List ℕ) (j a : ℕ) (q : Takeable t b j a) where
   pub take-done : (t₁ t₂ : List ℕ) (i : ℕ) → t₁ ≡ encode (withRecords (decode t) s₁) → i ≡ p₁ → t₂ ≡ recordJoined t₁ i b j
       → t₂ ≡ encode (withRecords (decode t) (absorb (recordsIn t) (nth (recordsIn b) j)))
   take-done t₁ t₂ i e d h = h ∙ rw (e, d) (record-words p₁ (placed .from-one) b j (withRecords (decode t) s₁) sound₁ (placed .within) joined-flag ∙ rw (record-is b (q .other) j (q .least) (q .most), same-key) (unfold absorb in refl))
+
+  -- 1 where the record changed or is past the old ones
+  pub take-counted : (t₁ : List ℕ) (i u : ℕ) (x : Bool) → t₁ ≡ encode (withRecords (decode t) s₁) → i ≡ p₁ → u ≡ usedAt t → x ≡ recordChanged t₁ i b j
+      → cond {A = ℕ} (x || ltb u i) 1 0 ≡ changes (recordsIn t) (absorb (recordsIn t) (nth (recordsIn b) j))
+  take-counted t₁ i u x e d f h = go (test (has (recordsIn t) (nth (recordsIn b) j .key)))
+    where
+      s : List Rec
+      s = recordsIn t
+
+      y : Rec
+      y = nth (recordsIn b) j
+
+      i-is : i ≡ position (nth (recordsIn b) j .key) (spaced (recordsIn t) (nth (recordsIn b) j .key))
+      i-is = rw same-key at d
+
+      x-is : x ≡ cellChanged (nth (spaced (recordsIn t) (nth (recordsIn b) j .key)) (position (nth (recordsIn b) j .key) (spaced (recordsIn t) (nth (recordsIn b) j .key))) .cell)
+          (joinCell (nth (spaced (recordsIn t) (nth (recordsIn b) j .key)) (position (nth (recordsIn b) j .key) (spaced (recordsIn t) (nth (recordsIn b) j .key))) .cell) (nth (recordsIn b) j .cell))
+      x-is =
+          h ∙ ap₂ (λ (w : List ℕ) (n : ℕ). recordChanged w n b j) e d
+          ∙ rw (← same-key, ← record-is b (q .other) j (q .least) (q .most)) (record-changes p₁ (placed .from-one) b j (withRecords (decode t) s₁) sound₁ (placed .within) joined-flag)
+
+      single : distinct (spaced (recordsIn t) (nth (recordsIn b) j .key)) ≡ true
+      single = rw same-key at (sound₁ .single)
+
+      counted : changes (recordsIn t) (absorb (recordsIn t) (nth (recordsIn b) j)) ≡ cond {A = ℕ} (has (recordsIn t) (nth (recordsIn b) j .key)) (cond {A = ℕ} (cellChanged (nth (recordsIn t) (position (nth (recordsIn b) j .key) (recordsIn t)) .cell) (joinCell (nth (recordsIn t) (position (nth (recordsIn b) j .key) (recordsIn t)) .cell) (nth (recordsIn b) j .cell))) 1 0) 1
+      counted = absorb-changes (recordsIn t) (nth (recordsIn b) j) (y-sound .wide)
+
+      go : (has (recordsIn t) (nth (recordsIn b) j .key) ≡ true) ⊎ (has (recordsIn t) (nth (recordsIn b) j .key) ≡ false) → cond {A = ℕ} (x || ltb u i) 1 0 ≡ changes (recordsIn t) (absorb (recordsIn t) (nth (recordsIn b) j))
+      go (inl g) =
+          let k = nth (recordsIn b) j .key in
+          let o = spaced-yes (recordsIn t) k g in
+          let n : i ≡ position (nth (recordsIn b) j .key) (recordsIn t) = rw o at i-is in
+          let c = rw o at x-is in
+          let l : ltb u i ≡ false = le-ltb u i (omega (arith, n, f, used-is t (q .own), position-some k (recordsIn t) g .within)) in
+          rw l (ap (λ (z : Bool). cond {A = ℕ} z 1 0) (or-off x ∙ c) ∙ sym (counted ∙ rw g))
+      go (inr g) =
+          let k = nth (recordsIn b) j .key in
+          let o = spaced-no (recordsIn t) k g in
+          let n : i ≡ position (nth (recordsIn b) j .key) (recordsIn t ++ (blank (nth (recordsIn b) j .key) ∷ [])) = rw o at i-is in
+          let d' : distinct (recordsIn t ++ (blank (nth (recordsIn b) j .key) ∷ [])) ≡ true = rw o at single in
+          let l : ltb u i ≡ true = lt-ltb u i (omega (arith, n, f, used-is t (q .own), last-position (recordsIn t) k d')) in
+          rw (or-right x (ltb u i) l) (sym (counted ∙ rw g))
 
   pub absorb-sound : SoundTable (withRecords (decode t) (absorb (recordsIn t) (nth (recordsIn b) j)))
   unfolding absorb joinedAt joinCell

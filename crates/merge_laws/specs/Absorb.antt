@@ -2,17 +2,17 @@
 -- Assumes nothing.
 use Prim.Native.Nat.{ℕ, zero, suc, _+_, _-_, _≤_, _<_, max}
 use mathlib.Core.Path.{_≡_}
-use mathlib.Core.Bool.{Bool, true, false, cond, _&&_, not}
+use mathlib.Core.Bool.{Bool, true, false, cond, _&&_, _||_, not}
 use mathlib.Core.List.{List, [], _∷_, _++_}
 use lib.Dec.{eqb, ltb}
 use lib.ListN.{length, getD, set, replicate}
 use Rattle.crdt.specs.Flags.{largestFlag}
-use Rattle.crdt.specs.Cells.{reg, noReg, joinReg, Cell, joinCell}
+use Rattle.crdt.specs.Cells.{reg, noReg, joinReg, regChanged, Cell, joinCell}
 use Rattle.model.specs.Layout.{fields, mostRelations, mostRecords, usedWord, firstWords, headWords, word, base, usedAt, relationAt, labelAt, flagAt, valueAt, stampAt}
 use Rattle.model.specs.Lists.{only}
 use Rattle.model.specs.Records.{Rec, place, relation, label, labelSpan, has, inOrder, distinct, position}
 use Rattle.model.specs.Tables.{Table, decode, encode}
-use Rattle.model.specs.Merge.{mergedRecords}
+use Rattle.model.specs.Merge.{mergedRecords, changes}
 
 abbrev pub noRec : Rec
 noRec = record { key = 0; cell = record { flag = 0; regs = [] } }
@@ -159,11 +159,27 @@ flagJoined t p b i = set t (base p + 3) (max (flagAt t p) (flagAt b i))
 unfoldable pub recordJoined : List ℕ → ℕ → List ℕ → ℕ → List ℕ
 recordJoined t p b i = fieldsJoined fields (flagJoined t p b i) p b i
 
--- Table t became t': the records of o above key k were still to be taken in, and now those above k' are. Nothing but records changed.
-pub record Taken (t t' : List ℕ) (o : List Rec) (k k' : ℕ) : Type 0 where
+-- Whether that changes field j; a field of 1 to n; the flag; the record.
+unfoldable pub fieldChanged : List ℕ → ℕ → List ℕ → ℕ → ℕ → Bool
+fieldChanged t p b i j = let g = reg (valueAt t p j) (stampAt t p j) in regChanged g (joinReg g (reg (valueAt b i j) (stampAt b i j)))
+
+unfoldable pub fieldsChanged : ℕ → List ℕ → ℕ → List ℕ → ℕ → Bool
+fieldsChanged zero t p b i = false
+fieldsChanged (suc n) t p b i = fieldsChanged n t p b i || fieldChanged (fieldsJoined n t p b i) p b i (suc n)
+
+unfoldable pub flagChanged : List ℕ → ℕ → List ℕ → ℕ → Bool
+flagChanged t p b i = not (eqb (flagAt t p) (max (flagAt t p) (flagAt b i)))
+
+unfoldable pub recordChanged : List ℕ → ℕ → List ℕ → ℕ → Bool
+recordChanged t p b i = flagChanged t p b i || fieldsChanged fields (flagJoined t p b i) p b i
+
+-- Table t became t': the records of o above key k were still to be taken in, and now those above k' are. Nothing but records changed, n of them so
+-- far: with those that the rest still changes they are all.
+pub record Taken (t t' : List ℕ) (o : List Rec) (k k' n : ℕ) : Type 0 where
   pub whole : Whole t'
   pub kept : decode t' ≡ withRecords (decode t) (decode t' .records)
   pub same : mergedRecords (decode t' .records) (beyond k' o) ≡ mergedRecords (decode t .records) (beyond k o)
+  pub count : n + changes (decode t' .records) (mergedRecords (decode t' .records) (beyond k' o)) ≡ changes (decode t .records) (mergedRecords (decode t .records) (beyond k o))
 
 -- What merging table b into table t needs: both are whole, and there is room.
 pub record Mergeable (t b : List ℕ) : Type 0 where

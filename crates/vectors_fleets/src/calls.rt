@@ -76,8 +76,13 @@ fn merge(
     let slot = number(s, taken.at);
     let other = number(s, slot.at);
     let got = fleet::merge(fleet, schema, own, third, slot.value, other.value);
-    let back = items::answered(s, other.at, taken.words, taken.sum, got);
-    digested(s, back, fleet, delta)
+    let back = items::answered(s, other.at, taken.words, taken.sum, got.number());
+    digested(
+        s,
+        items::with_result(s, back, got.changed() as u64),
+        fleet,
+        delta,
+    )
 }
 
 fn insertion(

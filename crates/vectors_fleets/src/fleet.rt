@@ -3,6 +3,7 @@
 use crate::slots;
 use answers::InsertionAnswer;
 use answers::MarksAnswer;
+use answers::MergeAnswer;
 use list_walk::Moved;
 use vector_stream::stream;
 
@@ -25,11 +26,11 @@ pub fn merge(
     third: &mut [u64],
     slot: u64,
     other: u64,
-) -> u64 {
+) -> MergeAnswer {
     let n = stream::least(slots::fetch_schema(fleet, schema) as u64, schema.len());
     let m = stream::least(slots::fetch(fleet, slot, own) as u64, own.len());
     let k = stream::least(slots::fetch(fleet, other, third) as u64, third.len());
-    let got = merge::merge(&schema[0..n], &mut own[0..m], &third[0..k]).number();
+    let got = merge::merge(&schema[0..n], &mut own[0..m], &third[0..k]);
     slots::store(fleet, slot, own, m);
     got
 }

@@ -19,6 +19,11 @@ fn label_of(s: &[u8], c: Cursor) -> Back {
     )
 }
 
+// 1 for true.
+fn truth(x: bool) -> u64 {
+    if x { 1 } else { 0 }
+}
+
 fn register_join(s: &[u8], c: Cursor) -> Back {
     let value = number(s, c.at);
     let stamp = number(s, value.at);
@@ -33,15 +38,23 @@ fn register_join(s: &[u8], c: Cursor) -> Back {
         stamp: stamp2.value,
     };
     let joined = crdt::join_registers(left, right);
+    let register = joined.register;
     let back = items::answered(s, stamp2.at, c.words, c.sum, 0);
-    items::with_result(s, items::with_result(s, back, joined.value), joined.stamp)
+    let valued = items::with_result(s, back, register.value);
+    let stamped = items::with_result(s, valued, register.stamp);
+    items::with_result(s, stamped, truth(joined.changed))
 }
 
 fn flag_join(s: &[u8], c: Cursor) -> Back {
     let left = number(s, c.at);
     let right = number(s, left.at);
     let joined = crdt::join_flags(left.value, right.value);
-    items::with_result(s, items::answered(s, right.at, c.words, c.sum, 0), joined)
+    let back = items::answered(s, right.at, c.words, c.sum, 0);
+    items::with_result(
+        s,
+        items::with_result(s, back, joined.flag),
+        truth(joined.changed),
+    )
 }
 
 fn delete(s: &[u8], c: Cursor) -> Back {
@@ -115,9 +128,10 @@ fn merge(s: &[u8], taken: Inputs, schema: &[u64], own: &mut [u64], third: &[u64]
     let n = stream::words_of(s, taken.schema, schema);
     let m = stream::words_of(s, taken.own, own);
     let k = stream::words_of(s, taken.third, third);
-    let got = merge::merge(&schema[0..n], &mut own[0..m], &third[0..k]).number();
-    let back = items::answered(s, taken.at, taken.words, taken.sum, got);
-    items::with_exit(s, back, taken.own, own)
+    let got = merge::merge(&schema[0..n], &mut own[0..m], &third[0..k]);
+    let back = items::answered(s, taken.at, taken.words, taken.sum, got.number());
+    let counted = items::with_result(s, back, got.changed() as u64);
+    items::with_exit(s, counted, taken.own, own)
 }
 
 pub fn run(

@@ -21,23 +21,23 @@ fn reg(value: u64, stamp: u64) -> Register {
 
 #[test]
 fn c1() {
-    assert_eq!(join_registers(reg(5, 257), reg(7, 514)), reg(7, 514));
+    assert_eq!(join_registers(reg(5, 257), reg(7, 514)), (reg(7, 514), true));
 }
 
 #[test]
 fn c2() {
-    assert_eq!(join_registers(reg(5, 257), reg(7, 257)), reg(7, 257));
-    assert_eq!(join_registers(reg(7, 257), reg(5, 257)), reg(7, 257));
+    assert_eq!(join_registers(reg(5, 257), reg(7, 257)), (reg(7, 257), true));
+    assert_eq!(join_registers(reg(7, 257), reg(5, 257)), (reg(7, 257), false));
 }
 
 #[test]
 fn c3() {
-    assert_eq!(join_registers(reg(0, 0), reg(5, 257)), reg(5, 257));
+    assert_eq!(join_registers(reg(0, 0), reg(5, 257)), (reg(5, 257), true));
 }
 
 #[test]
 fn c4() {
-    assert_eq!(join_flags(1, 2), 2);
+    assert_eq!(join_flags(1, 2), (2, true));
 }
 
 #[test]

@@ -52,7 +52,7 @@ fn edge_flag() {
 fn edge_merge_with_itself() {
     let words = case_table(12).words();
     let mut own = words.clone();
-    assert_eq!(merge(&herd(), &mut own, &words), Ok(()));
+    assert_eq!(merge(&herd(), &mut own, &words), Ok(0));
     assert_eq!(own, words);
 }
 

@@ -54,8 +54,9 @@ fn own_table_equals_merge_with_delta() {
             done += 1;
             assert_eq!(table_check(&schema, &written), Ok(()));
             let mut merged = words.clone();
-            assert_eq!(merge(&schema, &mut merged, &written), Ok(()));
+            assert_eq!(merge(&schema, &mut merged, &written), Ok(written[USED] as usize));
             assert_eq!(merged, own);
+            assert_eq!(merge(&schema, &mut merged, &written), Ok(0));
         } else {
             assert_eq!(own, words);
             assert_eq!(written, delta());

@@ -15,7 +15,7 @@ enum Demand {
 
 use Demand::{Decided, Follows};
 
-/// How many items must decide a rule of the redoing.
+/// How many items must decide a rule of the redoing, or of how much a merge changed.
 const MANY: usize = 20;
 
 /// Every rule has its line here: a match without one does not compile.
@@ -57,7 +57,19 @@ fn demand(rule: Rule) -> Demand {
         | Rule::DeletionSupportOther
         | Rule::DeletionSupportByAbort
         | Rule::DeletionSupportByPropagation
-        | Rule::DeletionReadsFound => Decided(MANY),
+        | Rule::DeletionReadsFound
+        | Rule::ChangedValue
+        | Rule::ChangedStamp
+        | Rule::RegisterBefore
+        | Rule::ChangedFlag
+        | Rule::FlagBefore
+        | Rule::OldCounted
+        | Rule::OldWithChange
+        | Rule::OldCountedOnce
+        | Rule::AddedCounted
+        | Rule::AddedCountedOnce
+        | Rule::AddedCountedBare
+        | Rule::ClockNotCounted => Decided(MANY),
         Rule::LargerStamp
         | Rule::LargerValue
         | Rule::LargerFlag
@@ -201,4 +213,22 @@ fn each_rule_is_decided_by_the_vectors() {
         }
     }
     assert!(wrong.is_empty(), "{:?}", wrong);
+}
+
+/// What a change is decides the joins, and the merges too.
+#[test]
+fn changes_are_decided_by_joins_and_by_merges() {
+    let items = single_items();
+    for (rule, join) in [
+        (Rule::ChangedValue, vectors::REGISTER_JOIN),
+        (Rule::ChangedStamp, vectors::REGISTER_JOIN),
+        (Rule::ChangedFlag, vectors::FLAG_JOIN),
+    ] {
+        for call in [join, vectors::MERGE] {
+            let of_call: Vec<(Item, Outcome)> =
+                items.iter().filter(|(item, _)| item.call == call).cloned().collect();
+            let count = without(rule, || differences(&of_call));
+            assert!(count >= MANY, "{:?} {} {}", rule, call, count);
+        }
+    }
 }

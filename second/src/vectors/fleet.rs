@@ -88,7 +88,9 @@ impl Fleet {
             }
             FLEET_MERGE => {
                 let other = self.slots[w[1] as usize % SLOTS].clone();
-                number(&merge(&self.schema, &mut self.slots[slot], &other))
+                let answer = merge(&self.schema, &mut self.slots[slot], &other);
+                results.push(answer.unwrap_or(0) as u64);
+                number(&answer)
             }
             FLEET_INSERTION => {
                 let insertion = Edit::Insertion { relation: w[1], values: item.slices[0].clone() };

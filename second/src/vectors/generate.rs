@@ -1,6 +1,7 @@
 //! The seeded generator of the vectors, a module for each group of calls.
 
 mod capacities;
+mod changes;
 mod damage;
 mod edges;
 mod edits;
@@ -64,5 +65,6 @@ pub fn vectors(seed: u64) -> Vec<Item> {
     fleets::fleets(&mut items, &mut random);
     edges::edges(&mut items, &mut random);
     redoing::redoing(&mut items, &mut random);
+    changes::changes(&mut items, &mut random);
     items.into_items()
 }

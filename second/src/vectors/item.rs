@@ -84,15 +84,15 @@ pub const FLEET_WALK: u8 = 26;
 /// The shape of each call, from call 1 on.
 pub const SHAPES: [Shape; 26] = [
     shape("label_of", &[], 2, 1, &[], TABLES),
-    shape("register_join", &[], 4, 2, &[], TABLES),
-    shape("flag_join", &[], 2, 1, &[], TABLES),
+    shape("register_join", &[], 4, 3, &[], TABLES),
+    shape("flag_join", &[], 2, 2, &[], TABLES),
     shape("delete", &[], 1, 1, &[], TABLES),
     shape("redo", &[], 1, 1, &[], TABLES),
     shape("schema_check", &[SCHEMA], 0, 0, &[], TABLES),
     shape("table_check", &[SCHEMA, TABLE], 0, 0, &[], TABLES),
     shape("start", &[TABLE], 1, 0, &[TABLE], TABLES),
     shape("values", &[TABLE], 1, FIELDS, &[], TABLES),
-    shape("merge", &[SCHEMA, TABLE, THIRD], 0, 0, &[TABLE], TABLES),
+    shape("merge", &[SCHEMA, TABLE, THIRD], 0, 1, &[TABLE], TABLES),
     shape("insertion", &[SCHEMA, TABLE, THIRD, VALUES], 1, 1, &[TABLE, THIRD], EDITS),
     shape("update", &[SCHEMA, TABLE, THIRD], 3, 0, &[TABLE, THIRD], EDITS),
     shape("deletion", &[SCHEMA, TABLE, THIRD], 1, 0, &[TABLE, THIRD], EDITS),
@@ -103,7 +103,7 @@ pub const SHAPES: [Shape; 26] = [
     shape("fleet_copy", &[], 2, 1, &[], FLEETS),
     shape("fleet_copy_delta", &[], 1, 1, &[], FLEETS),
     shape("fleet_spoil", &[], 3, 1, &[], FLEETS),
-    shape("fleet_merge", &[], 2, 1, &[], FLEETS),
+    shape("fleet_merge", &[], 2, 2, &[], FLEETS),
     shape("fleet_insertion", &[VALUES], 2, 2, &[], FLEETS),
     shape("fleet_update", &[], 4, 1, &[], FLEETS),
     shape("fleet_deletion", &[], 2, 1, &[], FLEETS),
@@ -112,7 +112,7 @@ pub const SHAPES: [Shape; 26] = [
 ];
 
 /// The names of the categories, from category 1 on.
-pub const CATEGORIES: [&str; 40] = [
+pub const CATEGORIES: [&str; 48] = [
     "labels, registers and flags",
     "schemas at their limits",
     "schemas with one rule broken",
@@ -153,6 +153,14 @@ pub const CATEGORIES: [&str; 40] = [
     "redoing: flags as a deletion found them",
     "redoing: a target referenced twice",
     "records in chains above R",
+    "changed: joins",
+    "changed: merges that bring nothing",
+    "changed: a delta met once and again",
+    "changed: refused merges",
+    "changed: a value, a stamp or a flag alone",
+    "changed: several registers of a record",
+    "changed: added records",
+    "changed: two directions that differ",
 ];
 
 pub fn shape_of(call: u8) -> Option<&'static Shape> {

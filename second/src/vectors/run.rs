@@ -23,10 +23,13 @@ fn run_scalar(call: u8, w: &[u64]) -> Outcome {
         LABEL_OF => result(label_of(w[0], w[1])),
         REGISTER_JOIN => {
             let a = Register { value: w[0], stamp: w[1] };
-            let joined = join_registers(a, Register { value: w[2], stamp: w[3] });
-            outcome(0, vec![joined.value, joined.stamp], vec![])
+            let (joined, changed) = join_registers(a, Register { value: w[2], stamp: w[3] });
+            outcome(0, vec![joined.value, joined.stamp, changed as u64], vec![])
         }
-        FLAG_JOIN => result(join_flags(w[0], w[1])),
+        FLAG_JOIN => {
+            let (joined, changed) = join_flags(w[0], w[1]);
+            outcome(0, vec![joined, changed as u64], vec![])
+        }
         DELETE => result(delete(w[0])),
         _ => result(redo(w[0])),
     }
@@ -64,8 +67,8 @@ fn run_table(item: &Item) -> Outcome {
         }
         MERGE => {
             let mut own = s[1].clone();
-            let answer = number(&merge(&s[0], &mut own, &s[2]));
-            outcome(answer, vec![], vec![own])
+            let answer = merge(&s[0], &mut own, &s[2]);
+            outcome(number(&answer), vec![answer.unwrap_or(0) as u64], vec![own])
         }
         MARKS => {
             let mut found = bytes(&s[2]);

@@ -1,7 +1,7 @@
 //! Each call on the library and on `second`, compared: the answer, what comes back, and every word.
 
 use crate::lent::{Lending, Lent};
-use herd::layout::{record_word, HEAD_WORDS};
+use herd::layout::{record_word, FLAG_WORD, HEAD_WORDS, USED_WORD};
 use herd::raw;
 use second::random::Random;
 use second::vectors::given;
@@ -27,11 +27,18 @@ pub struct Driver {
     random: Random,
     /// How often each function gave each answer.
     pub counts: BTreeMap<(&'static str, u64), u64>,
+    /// How often a merge that was done changed so many records.
+    pub changed: BTreeMap<u64, u64>,
 }
 
 impl Driver {
     pub fn new(lending: Lending, seed: u64) -> Driver {
-        Driver { lending, random: Random::new(seed), counts: BTreeMap::new() }
+        Driver {
+            lending,
+            random: Random::new(seed),
+            counts: BTreeMap::new(),
+            changed: BTreeMap::new(),
+        }
     }
 
     /// The number of calls so far.
@@ -55,6 +62,11 @@ impl Driver {
             }
             text.push('\n');
         }
+        text.push_str(&format!("{:<13}", "changed"));
+        for (changed, count) in &self.changed {
+            text.push_str(&format!(" {changed}:{count}"));
+        }
+        text.push('\n');
         text
     }
 
@@ -129,15 +141,29 @@ impl Driver {
         self.count("start", answer, number(&expected))
     }
 
-    pub fn merge(&mut self, schema: &[u64], own: &mut [u64], other: &[u64]) -> u64 {
+    /// The answer and the number of records changed.
+    pub fn merge(&mut self, schema: &[u64], own: &mut [u64], other: &[u64]) -> (u64, u64) {
         let (lent_schema, mut lent, lent_other) =
             (self.lend(schema), self.lend(own), self.lend(other));
-        let answer = raw::merge(lent_schema.part(), lent.part_mut(), lent_other.part());
+        let mut changed = self.lend_word();
+        let answer = raw::merge(
+            lent_schema.part(),
+            lent.part_mut(),
+            lent_other.part(),
+            &mut changed.part_mut()[0],
+        );
+        let before = own.to_vec();
         let expected = second::merge(schema, own, other);
         assert_eq!(lent_schema.back(), schema);
         assert_eq!(lent.back(), own);
         assert_eq!(lent_other.back(), other);
-        self.count("merge", answer, number(&expected))
+        let changed = changed.back()[0];
+        assert_eq!(changed, value_of(&expected.map(|changed| changed as u64)));
+        if answer == 0 {
+            assert_eq!(changed, differing(&before, own));
+            *self.changed.entry(changed).or_insert(0) += 1;
+        }
+        (self.count("merge", answer, number(&expected)), changed)
     }
 
     /// The answer and the label.
@@ -280,4 +306,15 @@ impl Driver {
 
 fn value_of(answer: &Answer<u64>) -> u64 {
     answer.unwrap_or(0)
+}
+
+/// The records of a table of which the flag, a value or a stamp differs from before, and those that
+/// were added. A record keeps its index.
+fn differing(before: &[u64], after: &[u64]) -> u64 {
+    let differs = |index: &usize| {
+        let cell = record_word(*index) + FLAG_WORD..record_word(index + 1);
+        before[cell.clone()] != after[cell]
+    };
+    let old = (1..=before[USED_WORD] as usize).filter(differs).count();
+    old as u64 + after[USED_WORD] - before[USED_WORD]
 }

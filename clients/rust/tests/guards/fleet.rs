@@ -2,7 +2,7 @@
 
 use crate::damage::Damage;
 use crate::driver::Driver;
-use herd::layout::{RECORD_WORDS, USED_WORD};
+use herd::layout::{record_word, FLAG_WORD, RECORD_WORDS, USED_WORD};
 use second::cases::{herd, record, COW, GROUP};
 use second::label::{label_of, LARGEST_COUNTER, LARGEST_FLAG};
 use second::random::{self, Random, Shape};
@@ -114,11 +114,15 @@ impl Fleet {
             }
         };
         if answer == 0 {
-            // The own table afterwards equals its merge with the delta.
+            // The own table afterwards equals its merge with the delta, of which each record is
+            // changed; a second merge with it changes none.
             let after = table.clone();
             let mut merged = before;
             if random.chance(1, 4) {
-                assert_eq!(driver.merge(&self.schema, &mut merged, &delta), 0);
+                let records = delta[USED_WORD];
+                assert_eq!(driver.merge(&self.schema, &mut merged, &delta), (0, records));
+                assert_eq!(merged, after);
+                assert_eq!(driver.merge(&self.schema, &mut merged, &delta), (0, 0));
                 assert_eq!(merged, after);
             }
             self.keep(random, delta);
@@ -131,7 +135,13 @@ impl Fleet {
             let copy = self.tables[at].clone();
             self.keep(random, copy);
         }
-        driver.merge(&self.schema, &mut self.tables[at], &other);
+        let (answer, _) = driver.merge(&self.schema, &mut self.tables[at], &other);
+        // With a copy of itself it changes nothing.
+        if answer == 0 && random.chance(1, 4) {
+            let copy = self.tables[at].clone();
+            assert_eq!(driver.merge(&self.schema, &mut self.tables[at], &copy), (0, 0));
+            assert_eq!(self.tables[at], copy);
+        }
     }
 
     /// The marks, then the walk from the beginning to the end and a step more.
@@ -203,6 +213,12 @@ pub fn large(driver: &mut Driver, seed: u64, capacity: usize) {
             assert_eq!(driver.start(&mut words, 9), 0);
             words
         };
+        // Every record is added; then every flag is raised.
+        let mut copy = empty.clone();
+        let mut raised = full.clone();
+        (1..=capacity).for_each(|index| raised[record_word(index) + FLAG_WORD] += 1);
+        assert_eq!(driver.merge(&schema, &mut copy, &full), (0, capacity as u64));
+        assert_eq!(driver.merge(&schema, &mut copy, &raised), (0, capacity as u64));
         let mut fleet = Fleet { schema, tables: vec![full, nearly, empty], others: Vec::new() };
         for at in 0..3 {
             driver.table_check(&fleet.schema, &fleet.tables[at]);

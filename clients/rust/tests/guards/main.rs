@@ -33,6 +33,10 @@ fn fleets_between_guards() {
     assert!(driver.counts.keys().all(|(function, answer)| {
         ANSWERS.iter().any(|(name, answers)| name == function && answers.contains(answer))
     }));
+    for changed in 0..=6 {
+        let count = driver.changed.get(&changed).copied().unwrap_or(0);
+        assert!(count >= 10, "merges that changed {changed} records: {count}");
+    }
 }
 
 #[test]

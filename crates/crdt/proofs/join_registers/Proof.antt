@@ -1,22 +1,16 @@
--- `crdt::join_registers` meets its contract: each branch is a case of the order.
+-- `crdt::join_registers` meets its contract: what is compared is what the join gave.
 -- Assumes nothing.
 use borrow.Author.Needs.{needs}
-use native.Mathlib.Omega.{arith}
-use Rattle.crdt.proofs.Order.{join-later, join-earlier, join-tie-up, join-tie-down}
+use Rattle.crdt.specs.Cells.{regChanged}
 use Rattle.crdt.proofs.join_registers.Statement.{statement}
 use Rattle.crdt.proofs.join_registers.Tie as tie
 
+larger-register-requires : tie.Need-larger-register-requires
+larger-register-requires c κs = search needs
+
 returns : tie.Need-returns
-returns c = search (needs, join-later)
-
-returns-2 : tie.Need-returns-2
-returns-2 c = search (needs, join-tie-up)
-
-returns-3 : tie.Need-returns-3
-returns-3 c = search (needs, join-tie-down)
-
-returns-4 : tie.Need-returns-4
-returns-4 c = join-earlier _ _ _ _ (omega arith)
+unfolding regChanged
+returns c = search needs
 
 pub join-registers-spec : {M : Type 1} → statement M
-join-registers-spec = tie.close (tie.spec returns returns-2 returns-3 returns-4)
+join-registers-spec = tie.close (tie.spec larger-register-requires returns)

@@ -44,7 +44,7 @@ same-length-4 : tie.Need-same-length-4
 same-length-4 c = search needs
 
 returns-2 : tie.Need-returns-2
-returns-2 c = let z = insertion-accepted _ _ _ _ _ _ (c .before .before .before .before .before .before .before .before .before .before .before .before .before .before .before .before .judge-insertion .ensures .0) _ (c .before .before .before .before .before .before .before .before .before .before .before .before .before .before .number .ensures) (c .before .before .before .before .before .before .before .before .before .before .before .before .before .if1 .left) in let l = array-long mostRecords _ (c .before .before .before .before .before .before .before .before .before .before .before .before .before .before .before .before .judge-insertion .kept .1 .1 .1 .1 .1 .0) in let p = c .before .before .before .before .before .before .before .before .before .before .before .before .before .before .before .before .judge-insertion .ensures .1 z in (insertion-told _ _ _ _ _ z _ (c .before .before .before .before .before .before .before .before .before .before .before .new-label .ensures), (insertion-done _ _ _ _ _ z _ p l _ (c .before .before .before .before .before .before .before .draft-insertion .ensures) _ (c .before .before .act .ensures), insertion-written _ _ _ _ _ z _ p l _ (c .before .before .before .before .before .before .before .draft-insertion .ensures)))
+returns-2 c = let z = insertion-accepted _ _ _ _ _ _ (c .before .before .before .before .before .before .before .before .before .before .before .before .before .before .before .before .judge-insertion .ensures .0) _ (c .before .before .before .before .before .before .before .before .before .before .before .before .before .before .number .ensures) (c .before .before .before .before .before .before .before .before .before .before .before .before .before .if1 .left) in let l = array-long mostRecords _ (c .before .before .before .before .before .before .before .before .before .before .before .before .before .before .before .before .judge-insertion .kept .1 .1 .1 .1 .1 .0) in let p = c .before .before .before .before .before .before .before .before .before .before .before .before .before .before .before .before .judge-insertion .ensures .1 z in (insertion-told _ _ _ _ _ z _ (c .before .before .before .before .before .before .before .before .before .before .before .new-label .ensures), (insertion-done _ _ _ _ _ z _ p l _ (c .before .before .before .before .before .before .before .draft-insertion .ensures) _ (c .before .before .act .ensures .0), insertion-written _ _ _ _ _ z _ p l _ (c .before .before .before .before .before .before .before .draft-insertion .ensures)))
 
 pub insertion-spec : {M : Type 1} → statement M
 insertion-spec =

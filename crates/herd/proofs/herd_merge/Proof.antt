@@ -1,12 +1,15 @@
 -- `herd::herd_merge` meets its contract.
 -- Assumes nothing.
-use Rattle.herd.proofs.Told.{told-number}
+use Rattle.herd.proofs.Told.{told-number, told-value}
 use borrow.Author.Needs.{needs}
 use Rattle.herd.proofs.herd_merge.Statement.{statement}
 use Rattle.herd.proofs.herd_merge.Tie as tie
 
 merge-requires : tie.Need-merge-requires
 merge-requires c κs = search needs
+
+changed-requires : tie.Need-changed-requires
+changed-requires c κs = search needs
 
 number-requires : tie.Need-number-requires
 number-requires c κs = search needs
@@ -15,7 +18,8 @@ same-length : tie.Need-same-length
 same-length c = search needs
 
 returns : tie.Need-returns
-returns c = (told-number (c .before .before .before .merge .ensures .0) (c .number .ensures), c .before .before .before .merge .ensures .1)
+returns c = (told-number (c .before .before .before .before .merge .ensures .0) (c .number .ensures), (told-value (c .before .before .before .before .merge .ensures .0) (c .before .changed .ensures), c .before .before .before .before .merge .ensures .1))
 
 pub herd-merge-spec : {M : Type 1} → statement M
-herd-merge-spec = tie.close (tie.spec merge-requires number-requires same-length returns)
+herd-merge-spec =
+    tie.close (tie.spec merge-requires changed-requires number-requires same-length returns)

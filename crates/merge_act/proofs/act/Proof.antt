@@ -24,7 +24,7 @@ same-length : tie.Need-same-length
 same-length c = search needs
 
 returns : tie.Need-returns
-returns c = act-is _ _ _ _ _ _ _ (c .before .before .before .before .before .before .before .before .before .before .clock .ensures) (c .before .before .before .before .before .before .before .before .before .clock2 .ensures) (c .before .before .before .before .before .before .before .before .larger .ensures) (c .before .before .before .before .before .before .take-chains .ensures) (c .before .before .store .ensures)
+returns c = (act-is _ _ _ _ _ _ _ (c .before .before .before .before .before .before .before .before .before .before .clock .ensures) (c .before .before .before .before .before .before .before .before .before .clock2 .ensures) (c .before .before .before .before .before .before .before .before .larger .ensures) (c .before .before .before .before .before .before .take-chains .ensures .0) (c .before .before .store .ensures), c .before .before .before .before .before .before .take-chains .ensures .1)
 
 pub act-spec : {M : Type 1} → statement M
 act-spec =

@@ -2,7 +2,7 @@
 -- Assumes nothing.
 use native.Mathlib.Omega.{arith}
 use Rattle.model.specs.Layout.{base}
-use Rattle.merge_join.proofs.Forms.{field-is}
+use Rattle.merge_join.proofs.Forms.{field-is, field-changed}
 use borrow.Author.Needs.{needs}
 use Rattle.merge_join.proofs.join_field.Statement.{statement}
 use Rattle.merge_join.proofs.join_field.Tie as tie
@@ -30,22 +30,22 @@ sub-at c = search needs
 
 add-at : tie.Need-add-at
 unfolding base
-add-at c = omega (arith, c .base .ensures, c .before .before .before .before .before .before .before .before .before .before .pre)
+add-at c = omega (arith, c .base .ensures, c .before .before .before .before .before .before .before .before .before .before .before .pre)
 
 add-store : tie.Need-add-store
 unfolding base
-add-store c = omega (arith, c .before .base .ensures, c .before .before .before .before .before .before .before .before .before .before .before .pre)
+add-store c = omega (arith, c .before .base .ensures, c .before .before .before .before .before .before .before .before .before .before .before .before .pre)
 
 store-requires : tie.Need-store-requires
 store-requires c κs = search needs
 
 add-store-2 : tie.Need-add-store-2
 unfolding base
-add-store-2 c = omega (arith, c .before .before .before .before .before .base .ensures, c .before .before .before .before .before .before .before .before .before .before .before .before .before .before .before .pre)
+add-store-2 c = omega (arith, c .before .before .before .before .before .base .ensures, c .before .before .before .before .before .before .before .before .before .before .before .before .before .before .before .before .pre)
 
 add-store-3 : tie.Need-add-store-3
 unfolding base
-add-store-3 c = omega (arith, c .before .before .before .before .before .base .ensures, c .before .before .before .before .before .before .before .before .before .before .before .before .before .before .before .pre)
+add-store-3 c = omega (arith, c .before .before .before .before .before .base .ensures, c .before .before .before .before .before .before .before .before .before .before .before .before .before .before .before .before .pre)
 
 store-requires-2 : tie.Need-store-requires-2
 store-requires-2 c κs = search needs
@@ -54,7 +54,10 @@ same-length : tie.Need-same-length
 same-length c = search needs
 
 returns : tie.Need-returns
-returns c = field-is _ _ _ _ _ _ _ _ _ _ _ _ _ _ (c .before .before .before .before .before .before .before .before .before .before .before .before .before .before .value-at .ensures) (c .before .before .before .before .before .before .before .before .before .before .before .before .stamp-at .ensures) (c .before .before .before .before .before .before .before .before .before .before .before .value-at2 .ensures) (c .before .before .before .before .before .before .before .before .before .before .stamp-at2 .ensures) (c .before .before .before .before .before .before .before .before .before .join-registers .ensures) (c .before .before .before .before .before .before .before .before .base .ensures) (c .before .before .before .before .before .before .store .ensures) (c .before .before .store2 .ensures)
+returns c = (
+  field-is _ _ _ _ _ _ _ _ _ _ _ _ _ _ (c .before .before .before .before .before .before .before .before .before .before .before .before .before .before .before .value-at .ensures) (c .before .before .before .before .before .before .before .before .before .before .before .before .before .stamp-at .ensures) (c .before .before .before .before .before .before .before .before .before .before .before .before .value-at2 .ensures) (c .before .before .before .before .before .before .before .before .before .before .before .stamp-at2 .ensures) (c .before .before .before .before .before .before .before .before .before .before .join-registers .ensures .0) (c .before .before .before .before .before .before .before .before .base .ensures) (c .before .before .before .before .before .before .store .ensures) (c .before .before .store2 .ensures),
+  field-changed _ _ _ _ _ _ _ _ _ _ _ _ (c .before .before .before .before .before .before .before .before .before .before .before .before .before .before .before .value-at .ensures) (c .before .before .before .before .before .before .before .before .before .before .before .before .before .stamp-at .ensures) (c .before .before .before .before .before .before .before .before .before .before .before .before .value-at2 .ensures) (c .before .before .before .before .before .before .before .before .before .before .before .stamp-at2 .ensures) (c .before .before .before .before .before .before .before .before .before .before .join-registers .ensures .0) (c .before .before .before .before .before .before .before .before .before .before .join-registers .ensures .1),
+)
 
 pub join-field-spec : {M : Type 1} → statement M
 join-field-spec =

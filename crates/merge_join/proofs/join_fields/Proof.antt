@@ -6,20 +6,20 @@ use Prim.Native.Nat.{_≤_, _-_}
 use mathlib.Core.Path.{_≡_}
 use native.Mathlib.Omega.{arith}
 use Rattle.model.specs.Layout.{fields}
-use Rattle.merge_laws.specs.Absorb.{fieldsJoined}
-use Rattle.merge_join.proofs.Forms.{fields-none, fields-more, fields-all}
+use Rattle.merge_laws.specs.Absorb.{fieldsJoined, fieldsChanged}
+use Rattle.merge_join.proofs.Forms.{fields-none, fields-more, fields-all, changed-none, changed-more, changed-all}
 use borrow.Author.Needs.{needs}
 use Rattle.merge_join.proofs.join_fields.Statement.{statement}
 use Rattle.merge_join.proofs.join_fields.Tie as tie
 
 abbrev Inv-loop : tie.InvT-loop
-Inv-loop own₀ i other j done₀ own done = (length own ≡ length own₀) × (done ≤ fields) × (own ≡ fieldsJoined done own₀ i other j)
+Inv-loop own₀ i other j done₀ changed₀ own done changed = (length own ≡ length own₀) × (done ≤ fields) × (own ≡ fieldsJoined done own₀ i other j) × (changed ≡ fieldsChanged done own₀ i other j)
 
 abbrev μ-loop : tie.MeasureT-loop
-μ-loop own₀ i other j done₀ own done = fields - done
+μ-loop own₀ i other j done₀ changed₀ own done changed = fields - done
 
 loop-holds : tie.Need-loop-holds Inv-loop μ-loop
-loop-holds c = (refl, omega arith, fields-none _ _ _ _)
+loop-holds c = (refl, omega arith, fields-none _ _ _ _, changed-none _ _ _ _)
 
 add-join-field : tie.Need-add-join-field Inv-loop μ-loop
 add-join-field c = omega arith
@@ -34,13 +34,13 @@ loop-less : tie.Need-loop-less Inv-loop μ-loop
 loop-less c = omega arith
 
 loop-again : tie.Need-loop-again Inv-loop μ-loop
-loop-again c = let v = c .before .before .before .before .before .loop .inv in (c .before .before .join-field .kept .0 ∙ v .0, omega arith, fields-more _ _ _ _ _ _ _ (v .2) (c .before .before .join-field .ensures))
+loop-again c = let v = c .before .before .before .before .before .loop .inv in (c .before .before .join-field .kept .0 ∙ v .0, omega arith, fields-more _ _ _ _ _ _ _ (v .2) (c .before .before .join-field .ensures .0), changed-more _ _ _ _ _ _ _ _ (v .2) (v .3) (c .before .before .join-field .ensures .1))
 
 same-length : tie.Need-same-length Inv-loop μ-loop
 same-length c = search needs
 
 returns : tie.Need-returns Inv-loop μ-loop
-returns c = let v = c .before .loop .inv in fields-all _ _ _ _ _ _ (v .1) (c .loop-test .left) (v .2)
+returns c = let v = c .before .loop .inv in (fields-all _ _ _ _ _ _ (v .1) (c .loop-test .left) (v .2), changed-all _ _ _ _ _ _ (v .1) (c .loop-test .left) (v .3))
 
 pub join-fields-spec : {M : Type 1} → statement M
 join-fields-spec =

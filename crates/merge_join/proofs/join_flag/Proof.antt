@@ -2,7 +2,7 @@
 -- Assumes nothing.
 use native.Mathlib.Omega.{arith}
 use Rattle.model.specs.Layout.{base}
-use Rattle.merge_join.proofs.Forms.{flag-is}
+use Rattle.merge_join.proofs.Forms.{flag-is, flag-changed}
 use borrow.Author.Needs.{needs}
 use Rattle.merge_join.proofs.join_flag.Statement.{statement}
 use Rattle.merge_join.proofs.join_flag.Tie as tie
@@ -30,7 +30,10 @@ same-length : tie.Need-same-length
 same-length c = search needs
 
 returns : tie.Need-returns
-returns c = flag-is _ _ _ _ _ _ _ _ _ (c .before .before .before .before .before .before .before .flag-at .ensures) (c .before .before .before .before .before .before .flag-at2 .ensures) (c .before .before .before .before .before .before .before .before .before .before .before .pre .1) (c .before .before .before .before .before .before .before .before .before .before .before .pre .2) (c .before .before .before .before .before .join-flags .ensures .0) (c .before .before .before .base .ensures) (c .before .before .store .ensures)
+returns c = (
+  flag-is _ _ _ _ _ _ _ _ _ (c .before .before .before .before .before .before .before .flag-at .ensures) (c .before .before .before .before .before .before .flag-at2 .ensures) (c .before .before .before .before .before .before .before .before .before .before .before .pre .1) (c .before .before .before .before .before .before .before .before .before .before .before .pre .2) (c .before .before .before .before .before .join-flags .ensures .0) (c .before .before .before .base .ensures) (c .before .before .store .ensures),
+  flag-changed _ _ _ _ _ _ _ _ (c .before .before .before .before .before .before .before .flag-at .ensures) (c .before .before .before .before .before .before .flag-at2 .ensures) (c .before .before .before .before .before .before .before .before .before .before .before .pre .1) (c .before .before .before .before .before .before .before .before .before .before .before .pre .2) (c .before .before .before .before .before .join-flags .ensures .0) (c .before .before .before .before .before .join-flags .ensures .1 .1 .1),
+)
 
 pub join-flag-spec : {M : Type 1} → statement M
 join-flag-spec =

@@ -2,7 +2,7 @@
 
 use super::damage::{break_chain, break_schema, break_table, wrong_length};
 use super::items::Items;
-use super::sources::{any_table, filled_table, random_edit};
+use super::sources::{accepted_edit, any_table, filled_table};
 use crate::layout;
 use crate::random::{self, Random, Shape as TableShape};
 use crate::table::Table;
@@ -50,16 +50,8 @@ pub fn merges(items: &mut Items, random: &mut Random) {
         other.capacity = other.records.len() + random.below(3) as usize;
         items.push(17, MERGE, vec![schema, own.words(), other.words()], vec![]);
     }
-    let mut delta_merges = 0;
-    while delta_merges < 300 {
-        let schema = random::schema(random);
-        let words = filled_table(random, &schema);
-        let (mut own, mut delta) = (words.clone(), vec![0; layout::DELTA]);
-        let (answer, _) = random_edit(random, &schema, &words).run(&schema, &mut own, &mut delta);
-        if answer != 0 {
-            continue;
-        }
-        delta_merges += 1;
+    for _ in 0..300 {
+        let (schema, words, own, delta) = accepted_edit(random);
         // Into the table as it was, into the edited one, or into another.
         let into = match random.below(4) {
             0 => own,

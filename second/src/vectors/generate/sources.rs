@@ -149,3 +149,16 @@ pub fn edit_item(category: u8, schema: &[u64], own: &[u64], delta: Vec<u64>, edi
     };
     Item { category, call, slices, words }
 }
+
+/// A random edit that is accepted: the schema, the table before and after it, and its delta.
+pub fn accepted_edit(random: &mut Random) -> (Vec<u64>, Vec<u64>, Vec<u64>, Vec<u64>) {
+    loop {
+        let schema = random::schema(random);
+        let words = filled_table(random, &schema);
+        let (mut own, mut delta) = (words.clone(), vec![0; layout::DELTA]);
+        let (answer, _) = random_edit(random, &schema, &words).run(&schema, &mut own, &mut delta);
+        if answer == 0 {
+            return (schema, words, own, delta);
+        }
+    }
+}
