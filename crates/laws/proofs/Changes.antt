@@ -27,7 +27,7 @@ pub cell-kept : (c : Cell) → cellChanged c c ≡ false
 unfolding cellChanged
 cell-kept c = rw (eq-eqb (c .flag) (c .flag) refl, regs-kept (c .regs))
 
-reg-same : (a b : Reg) → regChanged a b ≡ false → a ≡ b
+pub reg-same : (a b : Reg) → regChanged a b ≡ false → a ≡ b
 unfolding regChanged
 reg-same a b h =
     let o = or-false (not (eqb (a .value) (b .value))) (not (eqb (a .stamp) (b .stamp))) h in

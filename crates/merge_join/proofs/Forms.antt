@@ -1,16 +1,18 @@
 -- The steps of joining a record in the forms in which the code asks for them.
 -- Assumes nothing.
 use Prim.Native.Nat.{ℕ, _+_, _-_, _≤_, max}
-use mathlib.Core.Path.{_≡_, refl, _∙_, ap}
+use mathlib.Core.Path.{_≡_, refl, sym, _∙_, ap}
 use mathlib.Core.Bool.{Bool, false, _||_, not}
 use mathlib.Core.List.{List}
 use native.Mathlib.Omega.{arith}
 use native.Mathlib.Numerals.{add-one}
 use lib.Dec.{eqb}
 use lib.ListN.{set}
+use lib.Seq.{set-getD}
 use Rattle.crdt.specs.Flags.{largestFlag}
 use Rattle.crdt.specs.Cells.{Reg, reg, joinReg, regChanged}
-use Rattle.model.specs.Layout.{fields, headWords, base, flagAt, valueAt, stampAt}
+use Rattle.model.specs.Layout.{fields, headWords, word, base, flagAt, valueAt, stampAt}
+use Rattle.laws.proofs.Changes.{reg-same}
 use Rattle.merge_laws.specs.Absorb.{fieldJoined, fieldsJoined, flagJoined, recordJoined, fieldChanged, fieldsChanged, flagChanged, recordChanged}
 
 -- a register, the registers, the flag
@@ -21,6 +23,20 @@ unfolding fieldJoined
 field-is t t₁ t₂ b i j f v s v' s' gv gs at e₁ e₂ e₃ e₄ g h d₁ d₂ =
     let x : reg gv gs ≡ joinReg (reg (valueAt t i f) (stampAt t i f)) (reg (valueAt b j f) (stampAt b j f)) = rw (← e₁, ← e₂, ← e₃, ← e₄) g in
     rw (d₂, d₁, h) (ap (λ (q : Reg). set (set t (base i + (headWords - 1) + f) (q .value)) (base i + (headWords - 1) + fields + f) (q .stamp)) x)
+
+-- a register that is as before: there is nothing to store
+stored : (t : List ℕ) (k x : ℕ) → x ≡ word t k → t ≡ set t k x
+unfolding word
+stored t k x e = rw e (sym (set-getD t k 0))
+
+pub field-stays : (t b : List ℕ) (i j f v s v' s' gv gs : ℕ) (x : Bool) → v ≡ valueAt t i f → s ≡ stampAt t i f → v' ≡ valueAt b j f → s' ≡ stampAt b j f
+    → reg gv gs ≡ joinReg (reg v s) (reg v' s') → x ≡ regChanged (reg v s) (reg gv gs) → x ≡ false → t ≡ fieldJoined t i b j f
+unfolding valueAt stampAt
+field-stays t b i j f v s v' s' gv gs x e₁ e₂ e₃ e₄ g h n =
+    let r : reg gv gs ≡ reg v s = sym (reg-same (reg v s) (reg gv gs) (sym h ∙ n)) in
+    field-is t t t b i j f v s v' s' gv gs (base i) e₁ e₂ e₃ e₄ g refl
+    (stored t (base i + (headWords - 1) + f) gv (ap (λ (q : Reg). q .value) r ∙ e₁))
+    (stored t (base i + (headWords - 1) + fields + f) gs (ap (λ (q : Reg). q .stamp) r ∙ e₂))
 
 pub fields-more : (t₀ t t' b : List ℕ) (i j n : ℕ) → t ≡ fieldsJoined n t₀ i b j → t' ≡ fieldJoined t i b j (n + 1) → t' ≡ fieldsJoined (n + 1) t₀ i b j
 fields-more t₀ t t' b i j n e d = d ∙ rw (add-one n) (rw e (unfold fieldsJoined in refl))

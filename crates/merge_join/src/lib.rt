@@ -5,7 +5,7 @@ ghost use Rattle.crdt.specs.Flags.{largestFlag};
 ghost use Rattle.model.specs.Layout.{fields, mostRecords, flagAt};
 ghost use Rattle.merge_laws.specs.Absorb.{fieldJoined, fieldsJoined, flagJoined, recordJoined, fieldChanged, fieldsChanged, flagChanged, recordChanged};
 
-// Joins field `f` of record `j` of the other table into that of record `i`.
+// Joins field `f` of record `j` of the other table into that of record `i`. A register that stays as it is is not stored again.
 fn join_field(own: &mut [u64], i: usize, other: &[u64], j: usize, f: usize) -> bool
     requires { ⌜ (i ≤ mostRecords) × (f ≤ fields) ⌝ }
     ensures words { λ _. ⌜ now (own .exit) ≡ fieldJoined (now (own .entry)) i (now (other .entry)) j f ⌝ }
@@ -20,11 +20,14 @@ fn join_field(own: &mut [u64], i: usize, other: &[u64], j: usize, f: usize) -> b
         stamp: layout::stamp_at(other, j, f),
     };
     let joined = crdt::join_registers(old, new);
+    if !joined.changed {
+        return false;
+    }
     let register = joined.register;
     let at = layout::base(i) + (layout::HEAD_WORDS - 1);
     layout::store(own, at + f, register.value);
     layout::store(own, at + layout::FIELDS + f, register.stamp);
-    joined.changed
+    true
 }
 
 fn join_fields(own: &mut [u64], i: usize, other: &[u64], j: usize) -> bool

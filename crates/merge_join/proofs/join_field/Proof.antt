@@ -1,8 +1,10 @@
--- `merge_join::join_field` meets its contract. Two stores of the joined register.
+-- `merge_join::join_field` meets its contract. Two stores of the joined register, or none where it is as before.
 -- Assumes nothing.
+use mathlib.Core.Path.{sym, _∙_}
 use native.Mathlib.Omega.{arith}
 use Rattle.model.specs.Layout.{base}
-use Rattle.merge_join.proofs.Forms.{field-is, field-changed}
+use borrow.Author.Tests.{not-true, not-false}
+use Rattle.merge_join.proofs.Forms.{field-is, field-stays, field-changed}
 use borrow.Author.Needs.{needs}
 use Rattle.merge_join.proofs.join_field.Statement.{statement}
 use Rattle.merge_join.proofs.join_field.Tie as tie
@@ -22,6 +24,15 @@ stamp-at-requires-2 c κs = search needs
 join-registers-requires : tie.Need-join-registers-requires
 join-registers-requires c κs = search needs
 
+same-length : tie.Need-same-length
+same-length c = search needs
+
+returns : tie.Need-returns
+returns c = let n = not-true _ (c .if1 .taken) in (
+  field-stays _ _ _ _ _ _ _ _ _ _ _ _ (c .before .before .before .before .before .before .before .value-at .ensures) (c .before .before .before .before .before .stamp-at .ensures) (c .before .before .before .before .value-at2 .ensures) (c .before .before .before .stamp-at2 .ensures) (c .before .before .join-registers .ensures .0) (c .before .before .join-registers .ensures .1) n,
+  sym n ∙ field-changed _ _ _ _ _ _ _ _ _ _ _ _ (c .before .before .before .before .before .before .before .value-at .ensures) (c .before .before .before .before .before .stamp-at .ensures) (c .before .before .before .before .value-at2 .ensures) (c .before .before .before .stamp-at2 .ensures) (c .before .before .join-registers .ensures .0) (c .before .before .join-registers .ensures .1),
+)
+
 base-requires : tie.Need-base-requires
 base-requires c κs = search needs
 
@@ -30,33 +41,33 @@ sub-at c = search needs
 
 add-at : tie.Need-add-at
 unfolding base
-add-at c = omega (arith, c .base .ensures, c .before .before .before .before .before .before .before .before .before .before .before .pre)
+add-at c = omega (arith, c .base .ensures, c .before .before .before .before .before .before .before .before .before .before .before .before .before .pre)
 
 add-store : tie.Need-add-store
 unfolding base
-add-store c = omega (arith, c .before .base .ensures, c .before .before .before .before .before .before .before .before .before .before .before .before .pre)
+add-store c = omega (arith, c .before .base .ensures, c .before .before .before .before .before .before .before .before .before .before .before .before .before .before .pre)
 
 store-requires : tie.Need-store-requires
 store-requires c κs = search needs
 
 add-store-2 : tie.Need-add-store-2
 unfolding base
-add-store-2 c = omega (arith, c .before .before .before .before .before .base .ensures, c .before .before .before .before .before .before .before .before .before .before .before .before .before .before .before .before .pre)
+add-store-2 c = omega (arith, c .before .before .before .before .before .base .ensures, c .before .before .before .before .before .before .before .before .before .before .before .before .before .before .before .before .before .before .pre)
 
 add-store-3 : tie.Need-add-store-3
 unfolding base
-add-store-3 c = omega (arith, c .before .before .before .before .before .base .ensures, c .before .before .before .before .before .before .before .before .before .before .before .before .before .before .before .before .pre)
+add-store-3 c = omega (arith, c .before .before .before .before .before .base .ensures, c .before .before .before .before .before .before .before .before .before .before .before .before .before .before .before .before .before .before .pre)
 
 store-requires-2 : tie.Need-store-requires-2
 store-requires-2 c κs = search needs
 
-same-length : tie.Need-same-length
-same-length c = search needs
+same-length-2 : tie.Need-same-length-2
+same-length-2 c = search needs
 
-returns : tie.Need-returns
-returns c = (
-  field-is _ _ _ _ _ _ _ _ _ _ _ _ _ _ (c .before .before .before .before .before .before .before .before .before .before .before .before .before .before .before .value-at .ensures) (c .before .before .before .before .before .before .before .before .before .before .before .before .before .stamp-at .ensures) (c .before .before .before .before .before .before .before .before .before .before .before .before .value-at2 .ensures) (c .before .before .before .before .before .before .before .before .before .before .before .stamp-at2 .ensures) (c .before .before .before .before .before .before .before .before .before .before .join-registers .ensures .0) (c .before .before .before .before .before .before .before .before .base .ensures) (c .before .before .before .before .before .before .store .ensures) (c .before .before .store2 .ensures),
-  field-changed _ _ _ _ _ _ _ _ _ _ _ _ (c .before .before .before .before .before .before .before .before .before .before .before .before .before .before .before .value-at .ensures) (c .before .before .before .before .before .before .before .before .before .before .before .before .before .stamp-at .ensures) (c .before .before .before .before .before .before .before .before .before .before .before .before .value-at2 .ensures) (c .before .before .before .before .before .before .before .before .before .before .before .stamp-at2 .ensures) (c .before .before .before .before .before .before .before .before .before .before .join-registers .ensures .0) (c .before .before .before .before .before .before .before .before .before .before .join-registers .ensures .1),
+returns-2 : tie.Need-returns-2
+returns-2 c = (
+  field-is _ _ _ _ _ _ _ _ _ _ _ _ _ _ (c .before .before .before .before .before .before .before .before .before .before .before .before .before .before .before .before .before .value-at .ensures) (c .before .before .before .before .before .before .before .before .before .before .before .before .before .before .before .stamp-at .ensures) (c .before .before .before .before .before .before .before .before .before .before .before .before .before .before .value-at2 .ensures) (c .before .before .before .before .before .before .before .before .before .before .before .before .before .stamp-at2 .ensures) (c .before .before .before .before .before .before .before .before .before .before .before .before .join-registers .ensures .0) (c .before .before .before .before .before .before .before .before .base .ensures) (c .before .before .before .before .before .before .store .ensures) (c .before .before .store2 .ensures),
+  sym (not-false _ (c .before .before .before .before .before .before .before .before .before .before .if1 .left)) ∙ field-changed _ _ _ _ _ _ _ _ _ _ _ _ (c .before .before .before .before .before .before .before .before .before .before .before .before .before .before .before .before .before .value-at .ensures) (c .before .before .before .before .before .before .before .before .before .before .before .before .before .before .before .stamp-at .ensures) (c .before .before .before .before .before .before .before .before .before .before .before .before .before .before .value-at2 .ensures) (c .before .before .before .before .before .before .before .before .before .before .before .before .before .stamp-at2 .ensures) (c .before .before .before .before .before .before .before .before .before .before .before .before .join-registers .ensures .0) (c .before .before .before .before .before .before .before .before .before .before .before .before .join-registers .ensures .1),
 )
 
 pub join-field-spec : {M : Type 1} → statement M
@@ -68,6 +79,8 @@ join-field-spec =
     value-at-requires-2
     stamp-at-requires-2
     join-registers-requires
+    same-length
+    returns
     base-requires
     sub-at
     add-at
@@ -76,5 +89,5 @@ join-field-spec =
     add-store-2
     add-store-3
     store-requires-2
-    same-length
-    returns)
+    same-length-2
+    returns-2)
