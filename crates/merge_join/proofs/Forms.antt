@@ -24,7 +24,7 @@ field-is t t₁ t₂ b i j f v s v' s' gv gs at e₁ e₂ e₃ e₄ g h d₁ d�
     let x : reg gv gs ≡ joinReg (reg (valueAt t i f) (stampAt t i f)) (reg (valueAt b j f) (stampAt b j f)) = rw (← e₁, ← e₂, ← e₃, ← e₄) g in
     rw (d₂, d₁, h) (ap (λ (q : Reg). set (set t (base i + (headWords - 1) + f) (q .value)) (base i + (headWords - 1) + fields + f) (q .stamp)) x)
 
--- a register that is as before: there is nothing to store
+-- an unchanged register: there is nothing to store
 stored : (t : List ℕ) (k x : ℕ) → x ≡ word t k → t ≡ set t k x
 unfolding word
 stored t k x e = rw e (sym (set-getD t k 0))

@@ -5,7 +5,7 @@ ghost use Rattle.crdt.specs.Flags.{largestFlag};
 ghost use Rattle.model.specs.Layout.{fields, mostRecords, flagAt};
 ghost use Rattle.merge_laws.specs.Absorb.{fieldJoined, fieldsJoined, flagJoined, recordJoined, fieldChanged, fieldsChanged, flagChanged, recordChanged};
 
-// Joins field `f` of record `j` of the other table into that of record `i`. A register that stays as it is is not stored again.
+// Joins field `f` of record `j` of the other table into that of record `i`. An unchanged one is not stored.
 fn join_field(own: &mut [u64], i: usize, other: &[u64], j: usize, f: usize) -> bool
     requires { ⌜ (i ≤ mostRecords) × (f ≤ fields) ⌝ }
     ensures words { λ _. ⌜ now (own .exit) ≡ fieldJoined (now (own .entry)) i (now (other .entry)) j f ⌝ }

@@ -1,4 +1,4 @@
--- `merge_join::join_field` meets its contract. Two stores of the joined register, or none where it is as before.
+-- `merge_join::join_field` meets its contract. Two stores of the joined register, or none where it is unchanged.
 -- Assumes nothing.
 use mathlib.Core.Path.{sym, _∙_}
 use native.Mathlib.Omega.{arith}
