@@ -168,12 +168,6 @@ module _ (t b : List ℕ) (j a : ℕ) (q : Takeable t b j a) where
       → cond {A = ℕ} (x || ltb u i) 1 0 ≡ changes (recordsIn t) (absorb (recordsIn t) (nth (recordsIn b) j))
   take-counted t₁ i u x e d f h = go (test (has (recordsIn t) (nth (recordsIn b) j .key)))
     where
-      s : List Rec
-      s = recordsIn t
-
-      y : Rec
-      y = nth (recordsIn b) j
-
       i-is : i ≡ position (nth (recordsIn b) j .key) (spaced (recordsIn t) (nth (recordsIn b) j .key))
       i-is = rw same-key at d
 
