@@ -10,3 +10,4 @@ pub mod Checks
 pub mod Fields
 pub mod Drafts
 pub mod Total
+pub mod OfKind

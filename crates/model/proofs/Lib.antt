@@ -3,3 +3,4 @@ pub mod Examples
 pub mod Runs
 pub mod Meaning
 pub mod Changed
+pub mod Book

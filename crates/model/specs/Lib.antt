@@ -15,3 +15,6 @@ pub mod Cases
 pub mod Second
 pub mod Examples
 pub mod Changed
+pub mod Book
+pub mod Barn
+pub mod BookRuns

@@ -31,7 +31,7 @@ use Rattle.convergence.proofs.Walk.{walk-lists}
 use Rattle.convergence.proofs.Tables.{Good, good-table, table-good, Begun, start-good}
 
 -- A check whose number is the answer applies.
-answered : (xs : List Check) (n : ℕ) → lowest xs ≡ suc n → some-of (λ (x : Check). eqb (x .number) (suc n) && x .applies) xs ≡ true
+pub answered : (xs : List Check) (n : ℕ) → lowest xs ≡ suc n → some-of (λ (x : Check). eqb (x .number) (suc n) && x .applies) xs ≡ true
 unfolding lowest some-of
 answered [] n h = absurd (omega arith)
 answered (x ∷ xs) n h = go (test (x .applies)) (λ e. answered xs n e)

@@ -4,3 +4,5 @@ pub mod Refusals
 pub mod Shown
 pub mod Edges
 pub mod Changed
+pub mod Book
+pub mod BookRuns

@@ -73,6 +73,13 @@ marks-good s t m h =
     let l = and-left (schemaLength s && tableLength t) _ (not-false _ (p .0)) in
     record { lent = and-left (schemaLength s) _ l; sized = and-right (schemaLength s) _ l; sound = p .1 .0; formed = not-false _ (p .1 .1 .0) }
 
+-- the mark of record i
+pub mark-is : (s t : List ℕ) (i : ℕ) → 1 ≤ i → i ≤ usedAt t → getD (marksOf s t) (i - 1) 0 ≡ cond (has (shown (schemaOf s) (inOrder (decode t .records))) (recordOf t i .key)) 1 0
+unfolding decode marksOf
+mark-is s t i l u =
+    let within : i - 1 < length (listed (usedAt t) (recordOf t)) = omega (arith, listed-length (usedAt t) (recordOf t)) in
+    mark-at _ (listed (usedAt t) (recordOf t)) _ (i - 1) noRec within ∙ rw (listed-at (usedAt t) (recordOf t) i noRec l u)
+
 pub incomplete-unmarked : (s t m : List ℕ) (i : ℕ) → marksNumber s t m ≡ 0 → 1 ≤ i → i ≤ usedAt t → complete (schemaOf s) (recordOf t i) ≡ false
     → getD (marksMarks s t m) (i - 1) 0 ≡ 0
 unfolding marksMarks
@@ -88,7 +95,7 @@ incomplete-unmarked s t m i h l u e = rw h (go (test (has (shown (schemaOf s) (i
     here = unfold decode in listed-at (usedAt t) (recordOf t) i noRec l u
 
     is : getD (marksOf s t) (i - 1) 0 ≡ cond (has (shown (schemaOf s) (inOrder recs)) (recordOf t i .key)) 1 0
-    is = unfold marksOf in mark-at _ recs _ (i - 1) noRec within ∙ rw here
+    is = mark-is s t i l u
 
     go : (has (shown (schemaOf s) (inOrder recs)) (recordOf t i .key) ≡ true) ⊎ (has (shown (schemaOf s) (inOrder recs)) (recordOf t i .key) ≡ false)
         → getD (marksOf s t) (i - 1) 0 ≡ 0
