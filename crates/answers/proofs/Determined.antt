@@ -22,7 +22,9 @@ use Rattle.answers.specs.declared.UpdateAnswer.{UpdateAnswer}
 use Rattle.answers.specs.declared.UpdateAnswer.the-variants as update
 use Rattle.answers.specs.declared.DeletionAnswer.{DeletionAnswer}
 use Rattle.answers.specs.declared.DeletionAnswer.the-variants as deletion
-use Rattle.answers.specs.Told.{Told, Determined, schemaTold, tableTold, startTold, mergeTold, marksTold, walkTold, insertionTold, updateTold, deletionTold}
+use Rattle.answers.specs.declared.FindAnswer.{FindAnswer}
+use Rattle.answers.specs.declared.FindAnswer.the-variants as find
+use Rattle.answers.specs.Told.{Told, Determined, schemaTold, tableTold, startTold, mergeTold, marksTold, walkTold, insertionTold, updateTold, deletionTold, findTold}
 
 -- An answer that can be read back from what is told of it is determined.
 read-back : {A : Type 0} (f : A → Told) (g : Told → A) → ((a : A) → g (f a) ≡ a) → Determined f
@@ -152,3 +154,14 @@ deletion-back deletion.FlagSpent = refl
 
 pub deletion-determined : Determined deletionTold
 deletion-determined = read-back deletionTold deletion-of deletion-back
+
+abbrev find-of : Told → FindAnswer
+find-of x = cond (eqb (x .number) 0) (find.Given (x .value)) (cond (eqb (x .number) 1) find.WrongLength find.TableBroken)
+
+find-back : (a : FindAnswer) → find-of (findTold a) ≡ a
+find-back (find.Given v) = refl
+find-back find.WrongLength = refl
+find-back find.TableBroken = refl
+
+pub find-determined : Determined findTold
+find-determined = read-back findTold find-of find-back

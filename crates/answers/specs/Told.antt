@@ -1,6 +1,6 @@
 -- What each case of an answer tells: the number of document 01, "What a call hands back", and the value handed back beside it, which is the new
--- label of an insertion, the shown count of marks, the index given by a walk and how many records a merge changed or added (document 02, F-1), and 0
--- elsewhere; of a walk also whether the list ended. What is told determines the answer (proofs/Determined.antt).
+-- label of an insertion, the shown count of marks, the index given by a walk and how many records a merge changed or added (document 02, F-1), the index
+-- of a milking found (F-2), and 0 elsewhere; of a walk also whether the list ended. What is told determines the answer (proofs/Determined.antt).
 -- Assumes nothing.
 use Prim.Native.Nat.{ℕ}
 use mathlib.Core.Bool.{Bool, true, false}
@@ -23,6 +23,8 @@ use Rattle.answers.specs.declared.UpdateAnswer.{UpdateAnswer}
 use Rattle.answers.specs.declared.UpdateAnswer.the-variants as update
 use Rattle.answers.specs.declared.DeletionAnswer.{DeletionAnswer}
 use Rattle.answers.specs.declared.DeletionAnswer.the-variants as deletion
+use Rattle.answers.specs.declared.FindAnswer.{FindAnswer}
+use Rattle.answers.specs.declared.FindAnswer.the-variants as find
 
 pub record Told : Type 0 where
   pub number : ℕ
@@ -109,3 +111,8 @@ deletionTold deletion.TableBroken = told 3 0
 deletionTold deletion.NotShown = told 6 0
 deletionTold deletion.Referenced = told 10 0
 deletionTold deletion.FlagSpent = told 13 0
+
+abbrev pub findTold : FindAnswer → Told
+findTold (find.Given v) = told 0 v
+findTold find.WrongLength = told 1 0
+findTold find.TableBroken = told 3 0

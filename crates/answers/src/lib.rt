@@ -1,7 +1,7 @@
 // The answers of the calls of document 01, "What a call hands back": an enum for each call, with the page's number and the values
 // of each case.
 ghost use mathlib.Core.Path.{_≡_};
-ghost use Rattle.answers.specs.Told.{schemaTold, tableTold, startTold, mergeTold, marksTold, walkTold, insertionTold, updateTold, deletionTold};
+ghost use Rattle.answers.specs.Told.{schemaTold, tableTold, startTold, mergeTold, marksTold, walkTold, insertionTold, updateTold, deletionTold, findTold};
 
 // Schema check.
 pub enum SchemaAnswer {
@@ -280,6 +280,36 @@ impl DeletionAnswer {
             DeletionAnswer::NotShown => 6,
             DeletionAnswer::Referenced => 10,
             DeletionAnswer::FlagSpent => 13,
+        }
+    }
+}
+
+// The herd book's search for a shown milking, with its index, 0 for none.
+pub enum FindAnswer {
+    Given(usize),
+    WrongLength,
+    TableBroken,
+}
+
+impl FindAnswer {
+    pub fn number(self) -> u64
+        ensures { λ r. ⌜ r ≡ findTold self .number ⌝ }
+    {
+        match self {
+            FindAnswer::Given(_) => 0,
+            FindAnswer::WrongLength => 1,
+            FindAnswer::TableBroken => 3,
+        }
+    }
+
+    // The index of the milking; 0 for none and in a refusal.
+    pub fn index(self) -> usize
+        ensures { λ r. ⌜ r ≡ findTold self .value ⌝ }
+    {
+        match self {
+            FindAnswer::Given(i) => i,
+            FindAnswer::WrongLength => 0,
+            FindAnswer::TableBroken => 0,
         }
     }
 }

@@ -1,6 +1,6 @@
 -- `herd::herd_schema_check` meets its contract.
 -- Assumes nothing.
-use Rattle.herd.proofs.Told.{told-number}
+use Rattle.answers.proofs.Told.{told-number}
 use borrow.Author.Needs.{needs}
 use Rattle.herd.proofs.herd_schema_check.Statement.{statement}
 use Rattle.herd.proofs.herd_schema_check.Tie as tie

@@ -1,6 +1,6 @@
 -- `herd::herd_start` meets its contract.
 -- Assumes nothing.
-use Rattle.herd.proofs.Told.{told-number}
+use Rattle.answers.proofs.Told.{told-number}
 use borrow.Author.Needs.{needs}
 use Rattle.herd.proofs.herd_start.Statement.{statement}
 use Rattle.herd.proofs.herd_start.Tie as tie
