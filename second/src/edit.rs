@@ -185,7 +185,7 @@ fn redo_all(table: &mut Table, changed: &mut Vec<Record>, redone: &[usize]) {
 }
 
 /// 1: the length of a delta.
-fn is_delta(delta: &[u64]) -> bool {
+pub(crate) fn is_delta(delta: &[u64]) -> bool {
     holds(Rule::DeltaLength, delta.len() == layout::DELTA)
 }
 

@@ -6,6 +6,8 @@ pub const LARGEST_COUNTER: u64 = (1 << 40) - 1;
 pub const LARGEST_REPLICA: u64 = 255;
 pub const LARGEST_FLAG: u64 = 65_535;
 pub const NONE: u64 = 0;
+/// Every label is below this, 2^48.
+pub const LABELS: u64 = (LARGEST_COUNTER + 1) * 256;
 
 /// The label of a counter and a replica; 0 outside the limits.
 pub fn label_of(counter: u64, replica: u64) -> u64 {

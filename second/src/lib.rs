@@ -8,6 +8,7 @@
 //! not well-formed, fails, and this failure is the check. An accepted call works on the decoded
 //! table and encodes it again. No call panics on any words.
 
+pub mod book;
 pub mod cases;
 pub mod edit;
 pub mod inputs;

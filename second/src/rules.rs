@@ -332,6 +332,50 @@ rules! {
     UpdateClockAtEnd,
     /// 13: "a flag to be redone is 65,535".
     FlagAtEnd,
+
+    // The herd book.
+    /// "relations 1 to 6 in that order". Dropped: treatments before cleanings.
+    KindsInOrder,
+    /// "fields and keys in the order told here": fields. Dropped: a milking's robot before its cow.
+    FieldsInOrder,
+    /// "fields and keys in the order told here": keys. Dropped: the transponder before the ear tag.
+    KeysInOrder,
+    /// "A group and a robot have one field, a number, which is their key": a group's.
+    GroupNumberIsKey,
+    /// "A group and a robot have one field, a number, which is their key": a robot's.
+    RobotNumberIsKey,
+    /// "A cow has ear tag and transponder, each a key": the ear tag.
+    EarTagIsKey,
+    /// "A cow has ear tag and transponder, each a key": the transponder.
+    TransponderIsKey,
+    /// "A cow has ear tag and transponder, each a key": each. Dropped: both are one key.
+    EachIsKey,
+    /// "and may name her group by abort". Dropped: by propagation.
+    GroupByAbort,
+    /// "A milking names cow by propagation". Dropped: by abort.
+    MilkingCowByPropagation,
+    /// "A milking names [...] robot by abort". Dropped: by propagation.
+    MilkingRobotByAbort,
+    /// "A cleaning names its robot by abort". Dropped: by propagation.
+    CleaningRobotByAbort,
+    /// "A treatment names its cow by propagation". Dropped: by abort.
+    TreatmentCowByPropagation,
+    /// "with 6 also for a record of another kind".
+    OfTheKind,
+    /// The place of this 6: after 3. Dropped: before it.
+    KindAfterTable,
+    /// The place of this 6: before 7 and the others. Dropped: after them.
+    KindBeforeField,
+    /// "the index of the shown milking with that label": a milking.
+    FoundMilking,
+    /// "the index of the shown milking with that label": with that label.
+    FoundLabel,
+    /// "with that label": a number that is no label is none's. Dropped: its last 48 bits are.
+    FoundWholeLabel,
+    /// "the index of the shown milking with that label": a shown one.
+    FoundShown,
+    /// "0 if the library shows none". Dropped: if none stands.
+    FoundNotOnlyStanding,
 }
 
 /// Whether the rule is in force: always.

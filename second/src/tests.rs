@@ -1,5 +1,6 @@
 //! The tests of the second implementation, and what they share.
 
+mod book;
 mod cases;
 mod changes;
 mod edges;

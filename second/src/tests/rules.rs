@@ -15,7 +15,8 @@ enum Demand {
 
 use Demand::{Decided, Follows};
 
-/// How many items must decide a rule of the redoing, or of how much a merge changed.
+/// How many items must decide a rule of the redoing, of how much a merge changed, or of the herd
+/// book.
 const MANY: usize = 20;
 
 /// Every rule has its line here: a match without one does not compile.
@@ -31,6 +32,7 @@ fn demand(rule: Rule) -> Demand {
         Rule::DeletionReadsOwnFound => {
             Follows("the deleted record does not count, so that its flag is not read")
         }
+        Rule::KeysInOrder => Follows("a conflict on either key is the same answer"),
         Rule::ChainsAboveRelations
         | Rule::InsertionRedoes
         | Rule::InsertionTargetOdd
@@ -69,7 +71,27 @@ fn demand(rule: Rule) -> Demand {
         | Rule::AddedCounted
         | Rule::AddedCountedOnce
         | Rule::AddedCountedBare
-        | Rule::ClockNotCounted => Decided(MANY),
+        | Rule::ClockNotCounted
+        | Rule::KindsInOrder
+        | Rule::FieldsInOrder
+        | Rule::GroupNumberIsKey
+        | Rule::RobotNumberIsKey
+        | Rule::EarTagIsKey
+        | Rule::TransponderIsKey
+        | Rule::EachIsKey
+        | Rule::GroupByAbort
+        | Rule::MilkingCowByPropagation
+        | Rule::MilkingRobotByAbort
+        | Rule::CleaningRobotByAbort
+        | Rule::TreatmentCowByPropagation
+        | Rule::OfTheKind
+        | Rule::KindAfterTable
+        | Rule::KindBeforeField
+        | Rule::FoundMilking
+        | Rule::FoundLabel
+        | Rule::FoundWholeLabel
+        | Rule::FoundShown
+        | Rule::FoundNotOnlyStanding => Decided(MANY),
         Rule::LargerStamp
         | Rule::LargerValue
         | Rule::LargerFlag
@@ -180,8 +202,9 @@ fn demand(rule: Rule) -> Demand {
 /// The items that stand for themselves. In a fleet a difference would show again in all items that
 /// follow, and a table of 4,096 records takes long.
 fn single_items() -> Vec<(Item, Outcome)> {
+    let fleets = vectors::FLEET_BEGIN..=vectors::FLEET_WALK;
     let single = |item: &Item| {
-        item.call < vectors::FLEET_BEGIN && item.slices.iter().all(|slice| slice.len() < 2_000)
+        !fleets.contains(&item.call) && item.slices.iter().all(|slice| slice.len() < 2_000)
     };
     vectors::read(stream()).unwrap().into_iter().filter(|(item, _)| single(item)).collect()
 }
@@ -229,6 +252,29 @@ fn changes_are_decided_by_joins_and_by_merges() {
                 items.iter().filter(|(item, _)| item.call == call).cloned().collect();
             let count = without(rule, || differences(&of_call));
             assert!(count >= MANY, "{:?} {} {}", rule, call, count);
+        }
+    }
+}
+
+/// Where a rule of the herd book, or of empty references, decides two of its calls, each has items
+/// that it decides.
+#[test]
+fn book_calls_are_decided_by_their_items() {
+    let items = single_items();
+    for (rule, calls) in [
+        (Rule::OfTheKind, [vectors::BOOK_CHANGE, vectors::BOOK_STRIKE]),
+        (Rule::KindAfterTable, [vectors::BOOK_CHANGE, vectors::BOOK_STRIKE]),
+        (Rule::KindBeforeField, [vectors::BOOK_CHANGE, vectors::BOOK_STRIKE]),
+        (Rule::EarTagIsKey, [vectors::BOOK_ENTER, vectors::BOOK_CHANGE]),
+        (Rule::TransponderIsKey, [vectors::BOOK_ENTER, vectors::BOOK_CHANGE]),
+        (Rule::TargetNonempty, [vectors::BOOK_ENTER, vectors::BOOK_CHANGE]),
+        (Rule::ClosedButForEmpty, [vectors::BOOK_STRIKE, vectors::BOOK_FIND]),
+    ] {
+        for call in calls {
+            let of_call: Vec<(Item, Outcome)> =
+                items.iter().filter(|(item, _)| item.call == call).cloned().collect();
+            let count = without(rule, || differences(&of_call));
+            assert!(count >= MANY / 2, "{:?} {} {}", rule, call, count);
         }
     }
 }

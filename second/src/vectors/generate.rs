@@ -1,5 +1,8 @@
 //! The seeded generator of the vectors, a module for each group of calls.
 
+mod book;
+mod book_find;
+mod book_tables;
 mod capacities;
 mod changes;
 mod damage;
@@ -66,5 +69,7 @@ pub fn vectors(seed: u64) -> Vec<Item> {
     edges::edges(&mut items, &mut random);
     redoing::redoing(&mut items, &mut random);
     changes::changes(&mut items, &mut random);
+    book::book(&mut items, &mut random);
+    book_find::finds(&mut items, &mut random);
     items.into_items()
 }

@@ -41,7 +41,8 @@ pub const TABLES: &str = "vectors_tables";
 pub const LISTS: &str = "vectors_lists";
 pub const EDITS: &str = "vectors_edits";
 pub const FLEETS: &str = "vectors_fleets";
-pub const PROGRAMS: [&str; 4] = [TABLES, LISTS, EDITS, FLEETS];
+pub const BOOK: &str = "vectors_book";
+pub const PROGRAMS: [&str; 5] = [TABLES, LISTS, EDITS, FLEETS, BOOK];
 
 const fn shape(
     name: &'static str,
@@ -80,9 +81,13 @@ pub const FLEET_UPDATE: u8 = 23;
 pub const FLEET_DELETION: u8 = 24;
 pub const FLEET_MARKS: u8 = 25;
 pub const FLEET_WALK: u8 = 26;
+pub const BOOK_ENTER: u8 = 27;
+pub const BOOK_CHANGE: u8 = 28;
+pub const BOOK_STRIKE: u8 = 29;
+pub const BOOK_FIND: u8 = 30;
 
 /// The shape of each call, from call 1 on.
-pub const SHAPES: [Shape; 26] = [
+pub const SHAPES: [Shape; 30] = [
     shape("label_of", &[], 2, 1, &[], TABLES),
     shape("register_join", &[], 4, 3, &[], TABLES),
     shape("flag_join", &[], 2, 2, &[], TABLES),
@@ -109,10 +114,14 @@ pub const SHAPES: [Shape; 26] = [
     shape("fleet_deletion", &[], 2, 1, &[], FLEETS),
     shape("fleet_marks", &[], 1, 2, &[], FLEETS),
     shape("fleet_walk", &[], 2, 2, &[], FLEETS),
+    shape("book_enter", &[TABLE, THIRD, VALUES], 1, 1, &[TABLE, THIRD], BOOK),
+    shape("book_change", &[TABLE, THIRD], 4, 0, &[TABLE, THIRD], BOOK),
+    shape("book_strike", &[TABLE, THIRD], 2, 0, &[TABLE, THIRD], BOOK),
+    shape("book_find", &[TABLE], 1, 1, &[], BOOK),
 ];
 
 /// The names of the categories, from category 1 on.
-pub const CATEGORIES: [&str; 48] = [
+pub const CATEGORIES: [&str; 62] = [
     "labels, registers and flags",
     "schemas at their limits",
     "schemas with one rule broken",
@@ -161,6 +170,20 @@ pub const CATEGORIES: [&str; 48] = [
     "changed: several registers of a record",
     "changed: added records",
     "changed: two directions that differ",
+    "book: entries",
+    "book: entries with empty references",
+    "book: changes and strikes",
+    "book: each refusal",
+    "book: the order of the refusals",
+    "book: records of another kind",
+    "book: records of another kind, refused before",
+    "book: records of another kind, refused later too",
+    "book: shown milkings",
+    "book: milkings that are not shown",
+    "book: labels of other kinds",
+    "book: numbers that no milking has",
+    "book: refused searches",
+    "book: capacities 0 and 4,096",
 ];
 
 pub fn shape_of(call: u8) -> Option<&'static Shape> {

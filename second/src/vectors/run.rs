@@ -2,6 +2,7 @@
 
 use super::fleet::Fleet;
 use super::item::*;
+use crate::book;
 use crate::label::{delete, join_flags, join_registers, label_of, redo, Register};
 use crate::layout::FIELDS;
 use crate::shown::given;
@@ -84,12 +85,33 @@ fn run_table(item: &Item) -> Outcome {
     }
 }
 
+fn run_book(item: &Item) -> Outcome {
+    let (s, w) = (&item.slices, &item.words);
+    if item.call == BOOK_FIND {
+        let answer = book::find_milking(&s[0], w[0]);
+        return outcome(number(&answer), vec![answer.unwrap_or(0)], vec![]);
+    }
+    let (mut own, mut delta) = (s[0].clone(), s[1].clone());
+    let (answer, results) = match item.call {
+        BOOK_ENTER => {
+            let answer = book::enter(&mut own, &mut delta, w[0], &s[2]);
+            (number(&answer), vec![answer.unwrap_or(0)])
+        }
+        BOOK_CHANGE => {
+            (number(&book::change(&mut own, &mut delta, w[0], w[1], w[2], w[3])), vec![])
+        }
+        _ => (number(&book::strike(&mut own, &mut delta, w[0], w[1])), vec![]),
+    };
+    outcome(answer, results, vec![own, delta])
+}
+
 /// Runs an item; the fleet is the state of the fleet items.
 pub fn run(fleet: &mut Fleet, item: &Item) -> Outcome {
     match item.call {
         LABEL_OF..=REDO => run_scalar(item.call, &item.words),
         INSERTION..=DELETION => run_edit(item),
         FLEET_BEGIN..=FLEET_WALK => fleet.run(item),
+        BOOK_ENTER..=BOOK_FIND => run_book(item),
         _ => run_table(item),
     }
 }
