@@ -16,6 +16,8 @@
  * Link with libherd.a (rt staticlib herd, or tools/install and pkg-config). Its objects are for x86-64 Linux. Of the C library it needs
  * memset and the like, and nothing else. At start-up compare the library with this header (herd_version_fits).
  *
+ * herdbook.h has the herd book of a barn above these calls: a fixed schema, and calls in the barn's own words.
+ *
  * What all calls need
  *   - A slice is a pointer and then its length, in words, or in bytes for marks. The pointer is not null, also with length 0; it is
  *     aligned for its type, and the memory is that long. Any length and any contents may be lent. So as not to be refused, a schema
@@ -41,11 +43,11 @@ extern "C" {
 #endif
 
 /*
- * The version of this header, as one number: 2.0.0 is 20000. A change of a parameter list, of a layout figure or of what a call answers
+ * The version of this header, as one number: 2.1.0 is 20100. A change of a parameter list, of a layout figure or of what a call answers
  * raises the major part, an addition the minor part, anything else the patch. CHANGELOG.md tells what changed.
  */
 #define HERD_VERSION_MAJOR 2
-#define HERD_VERSION_MINOR 0
+#define HERD_VERSION_MINOR 1
 #define HERD_VERSION_PATCH 0
 #define HERD_VERSION (HERD_VERSION_MAJOR * 10000 + HERD_VERSION_MINOR * 100 + HERD_VERSION_PATCH)
 

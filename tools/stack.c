@@ -1,9 +1,9 @@
 /*
- * The stack that each call of libherd.a needs, measured. Each call runs on a stack of its own that is painted before; the depth is what it
- * overwrote. The tables have the most records. Prints the bytes of each call; exits with 1 if include/herd.h tells another number than the
- * bytes of a call rounded up, or if one passes LIMIT.
+ * The stack that each call of libherd.a and libherdbook.a needs, measured. Each call runs on a stack of its own that is painted before; the
+ * depth is what it overwrote. The tables have the most records. Prints the bytes of each call; exits with 1 if its header tells another
+ * number than the bytes rounded up, or if one passes LIMIT.
  *
- * Run by tools/stack. With an argument it prints `NAME BYTES` lines alone, rounded up, for tools/stack --write.
+ * Run by tools/stack. With an argument it prints `CALL BYTES` lines alone, rounded up, for tools/stack --write.
  */
 #define _XOPEN_SOURCE 600
 #include <stdio.h>
@@ -11,7 +11,7 @@
 #include <string.h>
 #include <ucontext.h>
 
-#include "herd.h"
+#include "herdbook.h"
 
 enum { LIMIT = 131072, STACK = 1 << 20, ROUND = 64 };
 
@@ -50,6 +50,16 @@ static void put(uint64_t *table, size_t index, uint64_t of, uint64_t counter, ui
         words[HERD_VALUE_WORDS + at] = from[at];
         words[HERD_STAMP_WORDS + at] = HERD_LABEL(counter, 1);
     }
+}
+
+/* Puts a record at the end of its relation's chain, which ends at the index that `last` has for the relation. */
+static void chain(uint64_t *table, uint64_t *last, uint64_t of, size_t index)
+{
+    if (last[of] == 0)
+        table[HERD_FIRST_WORDS + of - 1] = index;
+    else
+        table[HERD_RECORD(last[of]) + HERD_NEXT_WORD] = index;
+    last[of] = index;
 }
 
 static void finish_schema(void)
@@ -91,14 +101,63 @@ static void fill(uint64_t *table, size_t used, uint64_t counter, uint64_t replic
             from[1] = 9000;
         }
         put(table, index, of, name, of == GROUP, from, (size_t)schema[HERD_BLOCK(of) + HERD_COUNT_WORD]);
-        if (last[of] == 0)
-            table[HERD_FIRST_WORDS + of - 1] = index;
-        else
-            table[HERD_RECORD(last[of]) + HERD_NEXT_WORD] = index;
-        last[of] = index;
+        chain(table, last, of, index);
     }
     table[HERD_CLOCK_WORD] = counter + used;
     table[HERD_USED_WORD] = used;
+}
+
+/* In a herd book the last group and the last robot are held by no record, and the others are struck off and held. */
+enum { BOOK_GROUPS = 64, BOOK_ROBOTS = 8, BOOK_COWS = 1024 };
+
+enum { LAST_BOOK_GROUP = BOOK_GROUPS, LAST_BOOK_ROBOT = LAST_BOOK_GROUP + BOOK_ROBOTS, LAST_BOOK_COW = LAST_BOOK_ROBOT + BOOK_COWS };
+
+static uint64_t book_kind(size_t index)
+{
+    if (index <= LAST_BOOK_GROUP)
+        return HERDBOOK_GROUP;
+    if (index <= LAST_BOOK_ROBOT)
+        return HERDBOOK_ROBOT;
+    return index <= LAST_BOOK_COW ? HERDBOOK_COW : HERDBOOK_MILKING + index % 3;
+}
+
+/* The values of a record of a herd book: those of group, robot and cow are unique. */
+static void book_values(uint64_t kind, size_t index, uint64_t *into)
+{
+    uint64_t group = HERD_LABEL(1 + index % (BOOK_GROUPS - 1), 1);
+    uint64_t milker = HERD_LABEL(LAST_BOOK_GROUP + 1 + index % (BOOK_ROBOTS - 1), 1);
+    uint64_t cow = HERD_LABEL(LAST_BOOK_ROBOT + 1 + index % BOOK_COWS, 1);
+    size_t at;
+    for (at = 0; at < HERD_FIELDS; at++)
+        into[at] = index;
+    if (kind == HERDBOOK_COW)
+        into[HERDBOOK_COW_GROUP - 1] = group;
+    if (kind == HERDBOOK_MILKING) {
+        into[HERDBOOK_MILKING_COW - 1] = cow;
+        into[HERDBOOK_MILKING_ROBOT - 1] = milker;
+    }
+    if (kind == HERDBOOK_CLEANING)
+        into[HERDBOOK_CLEANING_ROBOT - 1] = milker;
+    if (kind == HERDBOOK_TREATMENT)
+        into[HERDBOOK_TREATMENT_COW - 1] = cow;
+}
+
+/* The own table as a herd book of `used` records: groups, robots, cows, then milkings, cleanings and treatments in turn. */
+static void fill_book(size_t used)
+{
+    uint64_t last[HERD_MOST_RELATIONS + 1] = {0}, from[HERD_FIELDS];
+    size_t index;
+    must(herd_start(own, WORDS, 1));
+    for (index = 1; index <= used; index++) {
+        uint64_t kind = book_kind(index);
+        uint64_t gone = index < LAST_BOOK_GROUP || (index > LAST_BOOK_GROUP && index < LAST_BOOK_ROBOT);
+        book_values(kind, index, from);
+        put(own, index, kind, index, gone, from, (size_t)HERDBOOK_SCHEMA[HERD_BLOCK(kind) + HERD_COUNT_WORD]);
+        chain(own, last, kind, index);
+    }
+    own[HERD_CLOCK_WORD] = used;
+    own[HERD_USED_WORD] = used;
+    must(herd_table_check(HERDBOOK_SCHEMA, HERD_SCHEMA_WORDS, own, WORDS));
 }
 
 static void call_nothing(void)
@@ -161,6 +220,33 @@ static void call_values(void)
     answer = herd_values(own, WORDS, record, &first);
 }
 
+/* The three calls of a kind; the values of a record that is entered follow its name. */
+#define BOOK_CALLS(kind, ...)                                                                        \
+    static void call_enter_##kind(void)                                                              \
+    {                                                                                                \
+        answer = book_enter_##kind(own, WORDS, delta, HERD_DELTA_WORDS, __VA_ARGS__, &label);        \
+    }                                                                                                \
+    static void call_change_##kind(void)                                                             \
+    {                                                                                                \
+        answer = book_change_##kind(own, WORDS, delta, HERD_DELTA_WORDS, record, field, value);      \
+    }                                                                                                \
+    static void call_strike_##kind(void)                                                             \
+    {                                                                                                \
+        answer = book_strike_##kind(own, WORDS, delta, HERD_DELTA_WORDS, record);                    \
+    }
+
+BOOK_CALLS(group, values[0])
+BOOK_CALLS(cow, values[0], values[1], values[2])
+BOOK_CALLS(robot, values[0])
+BOOK_CALLS(milking, values[0], values[1], values[2], values[3], values[4])
+BOOK_CALLS(cleaning, values[0], values[1], values[2])
+BOOK_CALLS(treatment, values[0], values[1], values[2])
+
+static void call_find_milking(void)
+{
+    answer = book_find_milking(own, WORDS, label, &given);
+}
+
 /* The bytes of a stack painted with `paint` that the call overwrote. */
 static size_t depth(void (*call)(void), int paint)
 {
@@ -187,18 +273,30 @@ struct measured {
     size_t told, bytes;
 };
 
+#define BOOK_MEASURED(kind, KIND)                                            \
+    {"book_enter_" #kind, call_enter_##kind, HERDBOOK_STACK_ENTER_##KIND, 0},    \
+        {"book_change_" #kind, call_change_##kind, HERDBOOK_STACK_CHANGE_##KIND, 0}, \
+        {"book_strike_" #kind, call_strike_##kind, HERDBOOK_STACK_STRIKE_##KIND, 0}
+
 static struct measured calls[] = {
-    {"VERSION", call_version, HERD_STACK_VERSION, 0},
-    {"SCHEMA_CHECK", call_schema_check, HERD_STACK_SCHEMA_CHECK, 0},
-    {"TABLE_CHECK", call_table_check, HERD_STACK_TABLE_CHECK, 0},
-    {"START", call_start, HERD_STACK_START, 0},
-    {"MERGE", call_merge, HERD_STACK_MERGE, 0},
-    {"INSERT", call_insert, HERD_STACK_INSERT, 0},
-    {"UPDATE", call_update, HERD_STACK_UPDATE, 0},
-    {"DELETE", call_delete, HERD_STACK_DELETE, 0},
-    {"MARKS", call_marks, HERD_STACK_MARKS, 0},
-    {"WALK", call_walk, HERD_STACK_WALK, 0},
-    {"VALUES", call_values, HERD_STACK_VALUES, 0},
+    {"herd_version", call_version, HERD_STACK_VERSION, 0},
+    {"herd_schema_check", call_schema_check, HERD_STACK_SCHEMA_CHECK, 0},
+    {"herd_table_check", call_table_check, HERD_STACK_TABLE_CHECK, 0},
+    {"herd_start", call_start, HERD_STACK_START, 0},
+    {"herd_merge", call_merge, HERD_STACK_MERGE, 0},
+    {"herd_insert", call_insert, HERD_STACK_INSERT, 0},
+    {"herd_update", call_update, HERD_STACK_UPDATE, 0},
+    {"herd_delete", call_delete, HERD_STACK_DELETE, 0},
+    {"herd_marks", call_marks, HERD_STACK_MARKS, 0},
+    {"herd_walk", call_walk, HERD_STACK_WALK, 0},
+    {"herd_values", call_values, HERD_STACK_VALUES, 0},
+    BOOK_MEASURED(group, GROUP),
+    BOOK_MEASURED(cow, COW),
+    BOOK_MEASURED(robot, ROBOT),
+    BOOK_MEASURED(milking, MILKING),
+    BOOK_MEASURED(cleaning, CLEANING),
+    BOOK_MEASURED(treatment, TREATMENT),
+    {"book_find_milking", call_find_milking, HERDBOOK_STACK_FIND_MILKING, 0},
 };
 
 enum { CALLS = sizeof calls / sizeof calls[0] };
@@ -308,6 +406,73 @@ static void measure_edits(void)
     measure(call_delete, HERD_REFERENCED);
 }
 
+/* A kind of the herd book: its three calls, and whether its records may be held. */
+struct kind {
+    void (*enter)(void), (*change)(void), (*strike)(void);
+    size_t relation, last;
+    int held;
+};
+
+static const struct kind kinds[] = {
+    {call_enter_group, call_change_group, call_strike_group, HERDBOOK_GROUP, LAST_BOOK_GROUP, 1},
+    {call_enter_cow, call_change_cow, call_strike_cow, HERDBOOK_COW, LAST_BOOK_COW, 0},
+    {call_enter_robot, call_change_robot, call_strike_robot, HERDBOOK_ROBOT, LAST_BOOK_ROBOT, 1},
+    {call_enter_milking, call_change_milking, call_strike_milking, HERDBOOK_MILKING, LAST_BOOK_COW + 2, 0},
+    {call_enter_cleaning, call_change_cleaning, call_strike_cleaning, HERDBOOK_CLEANING, LAST_BOOK_COW + 3, 0},
+    {call_enter_treatment, call_change_treatment, call_strike_treatment, HERDBOOK_TREATMENT, LAST_BOOK_COW + 4, 0},
+};
+
+/* The calls of a kind. A group or a robot that is named is struck off, so that it is redone. */
+static void measure_kind(const struct kind *kind)
+{
+    size_t fields = (size_t)HERDBOOK_SCHEMA[HERD_BLOCK(kind->relation) + HERD_COUNT_WORD];
+    fill_book(N - 1);
+    book_values(kind->relation, N, values);
+    measure(kind->enter, HERD_DONE);
+    if (HERDBOOK_SCHEMA[HERD_BLOCK(kind->relation) + HERD_KEY_WORDS] != 0) {
+        values[0] = kind->last;
+        measure(kind->enter, HERD_CONFLICT);
+        values[0] = N;
+    }
+    fill_book(N);
+    measure(kind->enter, HERD_FULL);
+    record = kind->last;
+    book_values(kind->relation, N + 1, values);
+    for (field = 1; field <= fields; field++) {
+        value = values[field - 1];
+        measure(kind->change, HERD_DONE);
+    }
+    measure(kind->change, HERD_FIELD_OR_VALUE);
+    measure(kind->strike, HERD_DONE);
+    if (kind->held) {
+        record--;
+        measure(kind->strike, HERD_REFERENCED);
+    }
+    record = kind->relation == HERDBOOK_COW ? 1 : LAST_BOOK_COW;
+    measure(kind->change, HERD_NOT_SHOWN);
+    measure(kind->strike, HERD_NOT_SHOWN);
+    own[HERD_RECORD(N) + HERD_NEXT_WORD] = 1;
+    measure(kind->enter, HERD_OWN_NOT_WELL_FORMED);
+    measure(kind->change, HERD_OWN_NOT_WELL_FORMED);
+    measure(kind->strike, HERD_OWN_NOT_WELL_FORMED);
+}
+
+static void measure_book(void)
+{
+    size_t at;
+    for (at = 0; at < sizeof kinds / sizeof kinds[0]; at++)
+        measure_kind(&kinds[at]);
+    fill_book(N);
+    for (at = LAST_BOOK_COW + 1; at <= N + 1; at += 7) {
+        label = HERD_LABEL(at, 1);
+        measure(call_find_milking, HERD_DONE);
+    }
+    label = UINT64_MAX;
+    measure(call_find_milking, HERD_DONE);
+    own[HERD_RECORD(N) + HERD_NEXT_WORD] = 1;
+    measure(call_find_milking, HERD_OWN_NOT_WELL_FORMED);
+}
+
 /* What the header tells for a call: the bytes measured, rounded up. */
 static size_t rounded(size_t bytes)
 {
@@ -318,7 +483,7 @@ static size_t rounded(size_t bytes)
 static int agrees(const char *name, size_t bytes, size_t told)
 {
     if (rounded(bytes) != told)
-        printf("stack: include/herd.h tells %zu bytes for %s, and %zu are measured\n", told, name, rounded(bytes));
+        printf("stack: the header tells %zu bytes for %s, and %zu are measured\n", told, name, rounded(bytes));
     if (bytes > LIMIT)
         printf("stack: %s passes %d bytes\n", name, LIMIT);
     return rounded(bytes) == told && bytes <= LIMIT;
@@ -326,27 +491,30 @@ static int agrees(const char *name, size_t bytes, size_t told)
 
 int main(int count, char **arguments)
 {
-    size_t at, most = 0;
+    size_t at, most = 0, most_of_book = 0;
     int good = 1;
     (void)arguments;
     finish_schema();
     measure_reads();
     measure_merges();
     measure_edits();
+    measure_book();
     for (at = 0; at < CALLS; at++) {
         size_t bytes = calls[at].bytes;
-        if (bytes > most)
-            most = bytes;
+        size_t *largest = strncmp(calls[at].name, "book_", 5) == 0 ? &most_of_book : &most;
+        if (bytes > *largest)
+            *largest = bytes;
         if (count > 1) {
             printf("%s %zu\n", calls[at].name, rounded(bytes));
             continue;
         }
-        printf("stack: %-12s %6zu bytes\n", calls[at].name, bytes);
+        printf("stack: %-21s %6zu bytes\n", calls[at].name, bytes);
         good = agrees(calls[at].name, bytes, calls[at].told) && good;
     }
     if (count > 1)
         return 0;
-    good = agrees("all calls", most, HERD_STACK) && good;
-    printf("stack: a call that does nothing %zu bytes, the most %zu of %d\n", depth(call_nothing, 0xa5), most, LIMIT);
+    good = agrees("all calls of herd.h", most, HERD_STACK) && good;
+    good = agrees("all calls of herdbook.h", most_of_book, HERDBOOK_STACK) && good;
+    printf("stack: a call that does nothing %zu bytes, the most %zu and %zu of %d\n", depth(call_nothing, 0xa5), most, most_of_book, LIMIT);
     return !good;
 }

@@ -6,10 +6,10 @@ mod picture;
 mod tables;
 
 use herd::layout::{
-    record_word, DELTA_WORDS, FIELDS, HEAD_WORDS, LABEL_WORD, MOST_KEY_FIELDS, MOST_RECORDS,
-    RELATION_WORD, USED_WORD,
+    record_word, CLOCK_WORD, DELTA_WORDS, FIELDS, HEAD_WORDS, LABEL_WORD, MOST_KEY_FIELDS,
+    MOST_RECORDS, RELATION_WORD, USED_WORD,
 };
-use herd::raw;
+use herd::{book, raw, Label};
 use second::random::Random;
 use std::hint::black_box;
 use std::time::Instant;
@@ -258,8 +258,8 @@ fn last_shown(x: &Subject, size: usize, relation: usize) -> usize {
 /// A milking of a barn, and its grams.
 fn milking(x: &Subject, size: usize) -> Change {
     let label = |relation| x.edited[record_word(last_shown(x, size, relation)) + LABEL_WORD];
-    let values = vec![label(tables::COW), label(tables::ROBOT), 9000, 385, 100];
-    Change { relation: tables::MILKING, values, field: 3, value: 9100 }
+    let values = vec![label(book::COW), label(book::ROBOT), 9000, 385, 100];
+    Change { relation: book::MILKING, values, field: book::MILKING_GRAMS, value: 9100 }
 }
 
 /// A record with keys of its own, and its first key.
@@ -386,6 +386,103 @@ fn edits(subjects: &[Subject], change: fn(&Subject, usize) -> Change) -> Vec<Lin
     lines
 }
 
+/// An edit of the herd book, a milking entered, changed or struck off; the plain figure is the library's own edit.
+fn book_edit(
+    call: &'static str,
+    plain: &'static str,
+    subjects: &[Subject],
+    edit: impl Fn(&Change, usize, &mut [u64], &mut [u64]) -> u64,
+    library: impl Fn(&Subject, &Change, usize, &mut [u64], &mut [u64]) -> u64,
+    second: impl Fn(&Change, u64, &mut [u64], &mut [u64]) -> bool,
+) -> Line {
+    line(call, plain, subjects, |x, size| {
+        let c = milking(x, size);
+        let index = last_shown(x, size, book::MILKING);
+        let own = || (x.edited.clone(), vec![0u64; DELTA_WORDS]);
+        let (mut ours, mut theirs) = (own(), own());
+        assert_eq!(edit(&c, index, &mut ours.0, &mut ours.1), 0);
+        assert_eq!(library(x, &c, index, &mut theirs.0, &mut theirs.1), 0);
+        assert_eq!(ours, theirs);
+        let times = times(size).min(40);
+        (
+            timed(times, own, |(t, d)| assert_eq!(edit(&c, index, t, d), 0)),
+            timed(3, own, |(t, d)| assert!(second(&c, index as u64, t, d))),
+            timed(times, own, |(t, d)| assert_eq!(library(x, &c, index, t, d), 0)),
+        )
+    })
+}
+
+fn book_edits(subjects: &[Subject]) -> [Line; 3] {
+    [
+        book_edit(
+            "herd book, enter",
+            "insertion",
+            subjects,
+            |c, _, t, d| {
+                let v = &c.values;
+                raw::book::enter_milking(t, d, v[0], v[1], v[2], v[3], v[4], &mut 0)
+            },
+            |x, c, _, t, d| raw::insert(&x.schema, t, d, c.relation, &c.values, &mut 0),
+            |c, _, t, d| second::book::enter(t, d, c.relation as u64, &c.values).is_ok(),
+        ),
+        book_edit(
+            "herd book, change",
+            "update",
+            subjects,
+            |c, index, t, d| raw::book::change_milking(t, d, index, c.field, c.value),
+            |x, c, index, t, d| raw::update(&x.schema, t, d, index, c.field, c.value),
+            |c, index, t, d| {
+                let (kind, field) = (c.relation as u64, c.field as u64);
+                second::book::change(t, d, kind, index, field, c.value).is_ok()
+            },
+        ),
+        book_edit(
+            "herd book, strike",
+            "deletion",
+            subjects,
+            |_, index, t, d| raw::book::strike_milking(t, d, index),
+            |x, _, index, t, d| raw::delete(&x.schema, t, d, index),
+            |c, index, t, d| second::book::strike(t, d, c.relation as u64, index).is_ok(),
+        ),
+    ]
+}
+
+/// The search for the last shown milking, or for a label that no record has.
+fn finds(subjects: &[Subject], call: &'static str, there: bool) -> Line {
+    line(call, if there { "marks" } else { "table check" }, subjects, |x, size| {
+        let index = last_shown(x, size, book::MILKING);
+        let absent = Label::of(x.edited[CLOCK_WORD], 9).map_or(0, Label::word);
+        let label = if there { x.edited[record_word(index) + LABEL_WORD] } else { absent };
+        let expected = if there { index as u64 } else { 0 };
+        let mut found = 7;
+        assert_eq!(raw::book::find_milking(&x.edited, label, &mut found), 0);
+        assert_eq!(found, expected);
+        let bytes = || vec![0u8; size];
+        (
+            timed(
+                times(size),
+                || (),
+                |_| {
+                    black_box(raw::book::find_milking(black_box(&x.edited), label, &mut 0));
+                },
+            ),
+            timed(
+                3,
+                || (),
+                |_| assert_eq!(second::book::find_milking(&x.edited, label), Ok(expected)),
+            ),
+            timed(times(size), bytes, |m| {
+                let table = black_box(&x.edited);
+                black_box(if there {
+                    raw::marks(&x.schema, table, m, &mut 0)
+                } else {
+                    raw::table_check(&x.schema, table)
+                });
+            }),
+        )
+    })
+}
+
 /// A number with a comma before its last three digits.
 fn grouped(number: usize) -> String {
     match number {
@@ -459,6 +556,9 @@ fn main() {
     lines.extend(edits(&buckets, alike));
     lines.extend(edits(&chains, beside));
     lines.extend(edits(&boths, alike_beside));
+    lines.extend(book_edits(&barns));
+    lines.push(finds(&barns, "herd book, find a shown milking", true));
+    lines.push(finds(&barns, "herd book, find no milking", false));
     print(&lines);
     if let Some(path) = std::env::args().nth(1) {
         std::fs::write(path, picture::svg(&lines, &SIZES)).expect("the picture is written");

@@ -4,13 +4,18 @@
 use crate::{grouped, machine, multiple, time, Line};
 
 /// The panels: a title, and the calls that it shows.
-const PANELS: [(&str, &[&str]); 6] = [
+const PANELS: [(&str, &[&str]); 8] = [
     ("Table check, schema check", &["table check", "schema check"]),
     ("One step of the walk, start, values", &["walk, one step", "start", "values"]),
     ("Merge", &["merge"]),
     ("Marks", &["marks"]),
     ("Insertion", &["insertion"]),
     ("Update, deletion", &["update", "deletion"]),
+    ("Edits of the herd book", &["herd book, enter", "herd book, change", "herd book, strike"]),
+    (
+        "Searches of the herd book",
+        &["herd book, find a shown milking", "herd book, find no milking"],
+    ),
 ];
 
 const COLUMNS: usize = 2;

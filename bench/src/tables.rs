@@ -1,5 +1,6 @@
-//! The tables that are measured: a barn of six relations, and the worst cases of the shown list.
+//! The tables that are measured: a barn under the herd book's schema, and the worst cases of the shown list.
 
+use herd::book::{CLEANING, COW, GROUP, MILKING, ROBOT, SCHEMA, TREATMENT};
 use herd::{SchemaBuilder, FIELDS, MOST_KEY_FIELDS};
 use second::cases::record;
 use second::label_of;
@@ -19,28 +20,11 @@ pub struct Subject {
     pub edited: Vec<u64>,
 }
 
-pub const GROUP: usize = 1;
-pub const COW: usize = 2;
-pub const ROBOT: usize = 3;
-pub const MILKING: usize = 4;
-pub const CLEANING: usize = 5;
-pub const TREATMENT: usize = 6;
-
 /// The relation of the tables that have one.
 pub const ONLY: usize = 1;
 
 fn built(schema: SchemaBuilder) -> Vec<u64> {
     schema.build().expect("the schema is not broken").words().to_vec()
-}
-
-/// Groups, cows, robots, milkings, cleanings and treatments.
-fn barn_schema() -> Vec<u64> {
-    let schema = SchemaBuilder::new().relation().plain().key(&[1]);
-    let schema = schema.relation().plain().plain().abort(GROUP).key(&[1]).key(&[2]);
-    let schema = schema.relation().plain().key(&[1]);
-    let schema = schema.relation().propagation(COW).abort(ROBOT).plain().plain().plain();
-    let schema = schema.relation().abort(ROBOT).plain().plain();
-    built(schema.relation().propagation(COW).plain().plain())
 }
 
 fn words(capacity: usize, replica: u64, clock: u64, records: Vec<Record>) -> Vec<u64> {
@@ -130,7 +114,7 @@ fn shared(
 pub fn barn_subject(capacity: usize) -> Subject {
     let mut random = Random::new(7);
     let records = barn(capacity, &mut random);
-    shared("barn", barn_schema(), capacity, records, &mut random)
+    shared("barn", SCHEMA.words().to_vec(), capacity, records, &mut random)
 }
 
 /// All records in one relation, with two keys and no two alike.

@@ -1,4 +1,4 @@
-//! Links the static library `herd`: from the folder HERD_LIB_DIR, or else from target/staticlib of the repository.
+//! Links the static libraries `herd` and `herdbook`: from the folder HERD_LIB_DIR, or else from target/staticlib of the repository.
 
 use std::env;
 use std::path::PathBuf;
@@ -10,13 +10,15 @@ fn main() {
         Some(folder) => PathBuf::from(folder),
         None => here.join("../../target/staticlib"),
     };
-    let archive = folder.join("libherd.a");
-    println!("cargo:rerun-if-changed={}", archive.display());
-    if !archive.is_file() {
-        eprintln!("herd: there is no {}", archive.display());
-        eprintln!("herd: run `rt staticlib herd` in the repository, or set HERD_LIB_DIR to the folder of libherd.a");
-        std::process::exit(1);
-    }
     println!("cargo:rustc-link-search=native={}", folder.display());
-    println!("cargo:rustc-link-lib=static=herd");
+    for name in ["herdbook", "herd"] {
+        let archive = folder.join(format!("lib{name}.a"));
+        println!("cargo:rerun-if-changed={}", archive.display());
+        if !archive.is_file() {
+            eprintln!("herd: there is no {}", archive.display());
+            eprintln!("herd: run `rt staticlib {name}` in the repository, or set HERD_LIB_DIR to the folder of lib{name}.a");
+            std::process::exit(1);
+        }
+        println!("cargo:rustc-link-lib=static={name}");
+    }
 }

@@ -1,5 +1,5 @@
 //! Tables of records that several replicas edit apart and merge later: safe functions over the
-//! static library `herd`.
+//! static libraries `herd` and `herdbook`.
 //!
 //! The library has no heap and no state. A caller lends it slices of 64-bit words: a schema, a
 //! table, a delta. Every call is total. Bad schemas, damaged tables and wrong arguments are refused
@@ -12,6 +12,7 @@
 //! - [`Marks`] say which records are shown, and [`List`] reads them in order.
 //! - [`words_to_bytes`] and [`words_from_bytes`] are for files and messages.
 //! - [`version_fits`] tells whether the linked library fits this crate; ask it at start-up.
+//! - [`book`] is the herd book of a barn, with calls in the barn's own words under a fixed schema.
 //! - [`raw`] has the calls over plain slices and numbers, [`layout`] the numbers of the words.
 //!
 //! The crate is `no_std` and needs no heap; storage is the caller's.
@@ -61,12 +62,14 @@
 //! # Stack
 //!
 //! A call needs up to [`STACK`] bytes, whatever the size of the tables, and `include/herd.h` tells
-//! the number of each; where the stack is smaller, call from a thread or task that has it.
+//! the number of each; where the stack is smaller, call from a thread or task that has it. A call of
+//! the herd book needs up to [`book::STACK`].
 
 #![no_std]
 #![deny(unsafe_code)]
 #![warn(missing_docs)]
 
+pub mod book;
 mod bytes;
 mod error;
 mod label;
@@ -90,5 +93,6 @@ pub use schema::{Kind, Schema, SchemaBuilder, SchemaWords};
 pub use table::{Delta, Table};
 pub use version::{version, version_fits, VERSION};
 
-/// The stack that a call of the static library needs at most, in bytes, as `tools/stack` measures it.
+/// The stack that a call of the static library `herd` needs at most, in bytes, as `tools/stack`
+/// measures it.
 pub const STACK: usize = 119296;

@@ -6,6 +6,8 @@
 #[cfg(not(target_pointer_width = "64"))]
 compile_error!("the static library herd is for targets with 64-bit pointers");
 
+pub mod book;
+
 mod c {
     extern "C" {
         pub fn herd_version() -> u64;

@@ -246,6 +246,12 @@ impl SchemaBuilder {
         Schema::new(SchemaWords(self.words))
     }
 
+    /// The schema of a builder that is known to make one; a step that was broken does not compile.
+    pub(crate) const fn known(self) -> Schema {
+        assert!(!self.broken);
+        Schema { words: SchemaWords(self.words) }
+    }
+
     /// The word at which the block of the last relation begins.
     const fn block(&self) -> usize {
         block_word(self.relations)

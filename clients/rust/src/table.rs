@@ -29,6 +29,11 @@ impl Delta {
     pub const fn words(&self) -> &[u64] {
         &self.0
     }
+
+    /// The words, for a call to write.
+    pub(crate) fn words_mut(&mut self) -> &mut [u64] {
+        &mut self.0
+    }
 }
 
 impl Default for Delta {
@@ -321,6 +326,11 @@ impl<W: AsRef<[u64]> + AsMut<[u64]>> Table<W> {
         index: usize,
     ) -> Result<(), Error> {
         told(raw::delete(schema.words(), self.words.as_mut(), &mut delta.0, index))
+    }
+
+    /// The words, for a call to write.
+    pub(crate) fn words_mut(&mut self) -> &mut [u64] {
+        self.words.as_mut()
     }
 }
 

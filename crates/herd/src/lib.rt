@@ -7,7 +7,7 @@ ghost use Rattle.herd.specs.Version.{version};
 // The parts of the version. CHANGELOG.md tells when each one rises.
 const MAJOR: u64 = 2;
 
-const MINOR: u64 = 0;
+const MINOR: u64 = 1;
 
 const PATCH: u64 = 0;
 

@@ -12,7 +12,7 @@ use second::vectors::{random_edit, Edit};
 const TWO_RELATIONS: usize = block_word(3);
 
 /// Words that are wrong at most places.
-const WRONG: [u64; 12] =
+pub const WRONG: [u64; 12] =
     [0, 1, 2, 9, 255, 256, 257, 65_536, 1 << 40, 1 << 48, u64::MAX - 1, u64::MAX];
 
 pub struct Damage {
@@ -39,14 +39,14 @@ fn spoil(random: &mut Random, words: &mut [u64]) {
 }
 
 /// Spoils a word of the header or of a used record.
-fn spoil_table(random: &mut Random, words: &mut [u64]) {
+pub fn spoil_table(random: &mut Random, words: &mut [u64]) {
     let used = words.get(USED_WORD).copied().unwrap_or(0).min(12) as usize;
     let end = table_words(used).min(words.len());
     let end = if random.chance(1, 4) { end.min(HEADER_WORDS) } else { end };
     spoil(random, &mut words[..end]);
 }
 
-fn resize(random: &mut Random, words: &mut Vec<u64>) {
+pub fn resize(random: &mut Random, words: &mut Vec<u64>) {
     let length = words.len();
     let lengths = [
         0,

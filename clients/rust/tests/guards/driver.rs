@@ -8,8 +8,11 @@ use second::vectors::given;
 use second::{number, Answer};
 use std::collections::BTreeMap;
 
-/// The functions, and the numbers that each may answer.
-pub const ANSWERS: &[(&str, &[u64])] = &[
+/// Functions, and the numbers that each may answer.
+pub type Answers = &'static [(&'static str, &'static [u64])];
+
+/// The functions of the library.
+pub const ANSWERS: Answers = &[
     ("schema_check", &[0, 1, 2]),
     ("table_check", &[0, 1, 2, 3]),
     ("start", &[0, 1, 5]),
@@ -29,6 +32,8 @@ pub struct Driver {
     pub counts: BTreeMap<(&'static str, u64), u64>,
     /// How often a merge that was done changed so many records.
     pub changed: BTreeMap<u64, u64>,
+    /// How often a milking was found.
+    pub found: u64,
 }
 
 impl Driver {
@@ -38,6 +43,7 @@ impl Driver {
             random: Random::new(seed),
             counts: BTreeMap::new(),
             changed: BTreeMap::new(),
+            found: 0,
         }
     }
 
@@ -51,18 +57,25 @@ impl Driver {
         self.counts.iter().filter(|((_, told), _)| *told == answer).map(|(_, count)| count).sum()
     }
 
+    /// How often a function gave an answer.
+    pub fn given(&self, function: &'static str, answer: u64) -> u64 {
+        self.counts.get(&(function, answer)).copied().unwrap_or(0)
+    }
+
     /// A line for each function with its counts by answer.
-    pub fn report(&self) -> String {
+    pub fn report(&self, all: Answers) -> String {
         let mut text = format!("{} calls\n", self.calls());
-        for (function, answers) in ANSWERS {
-            text.push_str(&format!("{function:<13}"));
+        for (function, answers) in all {
+            text.push_str(&format!("{function:<16}"));
             for answer in *answers {
-                let count = self.counts.get(&(*function, *answer)).copied().unwrap_or(0);
-                text.push_str(&format!(" {answer}:{count}"));
+                text.push_str(&format!(" {answer}:{}", self.given(function, *answer)));
             }
             text.push('\n');
         }
-        text.push_str(&format!("{:<13}", "changed"));
+        if self.changed.is_empty() {
+            return text;
+        }
+        text.push_str(&format!("{:<16}", "changed"));
         for (changed, count) in &self.changed {
             text.push_str(&format!(" {changed}:{count}"));
         }
@@ -71,7 +84,7 @@ impl Driver {
     }
 
     #[track_caller]
-    fn count(&mut self, function: &'static str, answer: u64, expected: u64) -> u64 {
+    pub fn count(&mut self, function: &'static str, answer: u64, expected: u64) -> u64 {
         assert_eq!(answer, expected, "answer of {function}");
         *self.counts.entry((function, answer)).or_insert(0) += 1;
         answer
@@ -89,7 +102,7 @@ impl Driver {
         (0..1 + self.random.below(8)).map(|_| element(self.word())).collect()
     }
 
-    fn lend(&mut self, words: &[u64]) -> Lent<u64> {
+    pub fn lend(&mut self, words: &[u64]) -> Lent<u64> {
         let guards = (self.guard(|word| word), self.guard(|word| word));
         Lent::new(words, guards)
     }
@@ -100,7 +113,7 @@ impl Driver {
     }
 
     /// A word for a result, with old contents.
-    fn lend_word(&mut self) -> Lent<u64> {
+    pub fn lend_word(&mut self) -> Lent<u64> {
         let old = self.word();
         self.lend(&[old])
     }

@@ -1,17 +1,36 @@
-//! The static library against the second implementation, each slice between guard words: the
-//! answer, what comes back, and every word of every slice after each call.
+//! The static library against the second implementation, and the herd book against the library, each
+//! slice between guard words: the answer, what comes back, and every word of every slice after each
+//! call.
 
+mod book;
+mod book_driver;
 mod damage;
 mod driver;
 mod fleet;
 mod lent;
 
-use driver::{Driver, ANSWERS};
+use book::{barn, large_barn};
+use driver::{Answers, Driver, ANSWERS};
 use fleet::{fleet, large};
 use lent::Lending;
 
 const FLEETS: u64 = 600;
 const STEPS: usize = 100;
+const BARNS: u64 = 1_500;
+const BARN_STEPS: usize = 16;
+
+/// Each function gave each of its answers, at least ten times, and no other.
+fn gave_each(driver: &Driver, all: Answers) {
+    for (function, answers) in all {
+        for answer in *answers {
+            let count = driver.given(function, *answer);
+            assert!(count >= 10, "answer {answer} of {function}: {count}");
+        }
+    }
+    assert!(driver.counts.keys().all(|(function, answer)| {
+        all.iter().any(|(name, answers)| name == function && answers.contains(answer))
+    }));
+}
 
 #[test]
 fn fleets_between_guards() {
@@ -19,20 +38,12 @@ fn fleets_between_guards() {
     for seed in 0..FLEETS {
         fleet(&mut driver, seed, STEPS);
     }
-    print!("{}", driver.report());
+    print!("{}", driver.report(ANSWERS));
     assert!(driver.calls() >= 30_000);
     for error in herd::Error::ALL {
         assert!(driver.answered(error.number()) >= 10, "{error}");
     }
-    for (function, answers) in ANSWERS {
-        for answer in *answers {
-            let count = driver.counts.get(&(*function, *answer)).copied().unwrap_or(0);
-            assert!(count >= 10, "answer {answer} of {function}: {count}");
-        }
-    }
-    assert!(driver.counts.keys().all(|(function, answer)| {
-        ANSWERS.iter().any(|(name, answers)| name == function && answers.contains(answer))
-    }));
+    gave_each(&driver, ANSWERS);
     for changed in 0..=6 {
         let count = driver.changed.get(&changed).copied().unwrap_or(0);
         assert!(count >= 10, "merges that changed {changed} records: {count}");
@@ -43,7 +54,7 @@ fn fleets_between_guards() {
 fn largest_tables_between_guards() {
     let mut driver = Driver::new(Lending::Guarded, 1);
     large(&mut driver, 1, herd::MOST_RECORDS);
-    print!("{}", driver.report());
+    print!("{}", driver.report(ANSWERS));
     // One record more than the largest table has.
     let mut words = vec![0; herd::table_words(herd::MOST_RECORDS + 1)];
     assert_eq!(driver.start(&mut words, 1), 1);
@@ -59,6 +70,29 @@ fn fleets_in_exact_allocations() {
         fleet(&mut driver, seed, 60);
     }
     large(&mut driver, 2, 40);
-    print!("{}", driver.report());
+    print!("{}", driver.report(ANSWERS));
     assert!(driver.calls() >= 5_000);
+}
+
+#[test]
+fn herd_book_between_guards() {
+    let mut driver = Driver::new(Lending::Guarded, 3);
+    for seed in 0..BARNS {
+        barn(&mut driver, seed, BARN_STEPS);
+    }
+    large_barn(&mut driver, 3, herd::MOST_RECORDS);
+    print!("{}", driver.report(book_driver::ANSWERS));
+    assert!(driver.calls() >= 30_000 && driver.found >= 1_000);
+    gave_each(&driver, book_driver::ANSWERS);
+}
+
+/// The same in allocations of exactly their size, under valgrind too.
+#[test]
+fn herd_book_in_exact_allocations() {
+    let mut driver = Driver::new(Lending::Exact, 4);
+    for seed in BARNS..BARNS + 60 {
+        barn(&mut driver, seed, BARN_STEPS);
+    }
+    print!("{}", driver.report(book_driver::ANSWERS));
+    assert!(driver.calls() >= 2_000);
 }
