@@ -447,6 +447,28 @@ fn book_edits(subjects: &[Subject]) -> [Line; 3] {
     ]
 }
 
+/// The last shown milking struck off as a cow, which is refused.
+fn other_kind(subjects: &[Subject]) -> Line {
+    line("herd book, another kind", "table check", subjects, |x, size| {
+        let index = last_shown(x, size, book::MILKING);
+        let own = || (x.edited.clone(), vec![0u64; DELTA_WORDS]);
+        let second = |t: &mut [u64], d: &mut [u64]| {
+            second::book::strike(t, d, book::COW as u64, index as u64).is_err()
+        };
+        (
+            timed(times(size), own, |(t, d)| assert_eq!(raw::book::strike_cow(t, d, index), 6)),
+            timed(3, own, |(t, d)| assert!(second(t, d))),
+            timed(
+                times(size),
+                || (),
+                |_| {
+                    black_box(raw::table_check(&x.schema, black_box(&x.edited)));
+                },
+            ),
+        )
+    })
+}
+
 /// The search for the last shown milking, or for a label that no record has.
 fn finds(subjects: &[Subject], call: &'static str, there: bool) -> Line {
     line(call, if there { "marks" } else { "table check" }, subjects, |x, size| {
@@ -557,6 +579,7 @@ fn main() {
     lines.extend(edits(&chains, beside));
     lines.extend(edits(&boths, alike_beside));
     lines.extend(book_edits(&barns));
+    lines.push(other_kind(&barns));
     lines.push(finds(&barns, "herd book, find a shown milking", true));
     lines.push(finds(&barns, "herd book, find no milking", false));
     print(&lines);

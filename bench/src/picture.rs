@@ -13,8 +13,12 @@ const PANELS: [(&str, &[&str]); 8] = [
     ("Update, deletion", &["update", "deletion"]),
     ("Edits of the herd book", &["herd book, enter", "herd book, change", "herd book, strike"]),
     (
-        "Searches of the herd book",
-        &["herd book, find a shown milking", "herd book, find no milking"],
+        "Searches and refusals of the herd book",
+        &[
+            "herd book, find a shown milking",
+            "herd book, find no milking",
+            "herd book, another kind",
+        ],
     ),
 ];
 

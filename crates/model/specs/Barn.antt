@@ -85,7 +85,7 @@ entered =
     && enters groups (12 ∷ []) 9 0 && enters robots (5 ∷ []) 9 0
     && enters cows (40 ∷ 71 ∷ group ∷ []) 9 0 && enters cows (41 ∷ 70 ∷ group ∷ []) 9 0
 
--- "with 6 also for a record of another kind": after 1, before 7.
+-- "with 6 also for a record of another kind": after 1 and 3, before 7.
 unfoldable pub ofItsKind : Bool
 unfolding barn buffer changes strikes
 ofItsKind =
@@ -95,6 +95,7 @@ ofItsKind =
     && strikes milkings 4 0 && eqb (flagAt (strikeTable milkings (barn 0) buffer 4) 4) 1
     && strikes cows 4 6 && eqb (flagAt (strikeTable cows (barn 0) buffer 4) 4) 0
     && strikes groups 1 10 && strikes cows 1 6 && strikes groups 0 1
+    && eqb (changeNumber robots (barn 65536) buffer 2 2 72) 3 && eqb (strikeNumber cows (barn 65536) buffer 4) 3
 
 -- The shown milking of a label: struck off, or with its cow struck off, it is not shown. Past the labels lies the place of the cleaning.
 unfoldable pub foundMilkings : Bool
