@@ -12,7 +12,7 @@ use Rattle.answers.specs.Told.{Told, told}
 use Rattle.model.specs.Layout.{relationAt}
 use Rattle.model.specs.Lists.{lowest}
 use Rattle.model.specs.Edits.{Edit}
-use Rattle.model.specs.Calls.{badIndex, editNumber, editTable, editDelta, insertionNumber, insertionLabel, insertionTable, insertionDelta, updateOf, updateNumber, updateTable, updateDelta, deletionOf, deletionNumber, deletionTable, deletionDelta}
+use Rattle.model.specs.Calls.{badIndex, editNumber, editTable, editDelta, updateOf, updateNumber, updateTable, updateDelta, deletionOf, deletionNumber, deletionTable, deletionDelta}
 use Rattle.model.specs.Book.{book, ofKind, changeOf, changeNumber, changeTable, changeDelta, strikeOf, strikeNumber, strikeTable, strikeDelta}
 use Rattle.laws.proofs.OfKind.{kind-number, kind-table, kind-delta, other-table, other-delta}
 use Rattle.edit_laws.specs.First.{firstNumber}
@@ -42,11 +42,6 @@ module _ (index : Bool) (own delta : List ℕ) (r i : ℕ) (e : Edit) (h : relat
 
 -- As the code reads them: s is the schema lent to the library, q whether the record is of the kind, k what is told, x and y the words afterwards.
 module _ (own delta : List ℕ) (s : List ℕ) (e : s ≡ book) (k : Told) (x y : List ℕ) where
-  pub entered : (r : ℕ) (vs : List ℕ) → k ≡ told (insertionNumber s own delta r vs) (insertionLabel s own delta r vs) → x ≡ insertionTable s own delta r vs → y ≡ insertionDelta s own delta r vs
-      → (k ≡ told (insertionNumber book own delta r vs) (insertionLabel book own delta r vs)) × ((x ≡ insertionTable book own delta r vs) × (y ≡ insertionDelta book own delta r vs))
-  entered r vs a b c =
-      (a ∙ ap (λ (z : List ℕ). told (insertionNumber z own delta r vs) (insertionLabel z own delta r vs)) e, (b ∙ ap (λ (z : List ℕ). insertionTable z own delta r vs) e, c ∙ ap (λ (z : List ℕ). insertionDelta z own delta r vs) e))
-
   module _ (r i : ℕ) (q : Bool) (g : q ≡ eqb (relationAt own i) r) (h : q ≡ true) where
     own-kind : relationAt own i ≡ r
     own-kind = eqb-true _ _ (sym g ∙ h)

@@ -1,25 +1,14 @@
-// The herd book's calls, of any kind of record: the library's edits under its schema, with 6 also for a record of another kind.
+// The herd book's changes and strikes, of any kind of record: the library's edits under its schema, with 6 also for a record of another kind.
 ghost use mathlib.Core.Path.{_≡_};
 ghost use lib.Dec.{eqb};
-ghost use Rattle.answers.specs.Told.{told, tableTold, insertionTold, updateTold, deletionTold};
+ghost use Rattle.answers.specs.Told.{told, tableTold, updateTold, deletionTold};
 ghost use Rattle.model.specs.Layout.{relationAt};
-ghost use Rattle.model.specs.Calls.{badIndex, insertionNumber, insertionLabel, insertionTable, insertionDelta};
+ghost use Rattle.model.specs.Calls.{badIndex};
 ghost use Rattle.model.specs.Book.{book, changeNumber, changeTable, changeDelta, strikeNumber, strikeTable, strikeDelta};
 ghost use Rattle.edit_laws.specs.First.{firstNumber};
 use answers::DeletionAnswer;
-use answers::InsertionAnswer;
 use answers::TableAnswer;
 use answers::UpdateAnswer;
-
-// Enters a record of relation `kind`.
-pub fn enter(own: &mut [u64], delta: &mut [u64], kind: usize, values: &[u64]) -> InsertionAnswer
-    ensures answer { λ r. ⌜ insertionTold r ≡ told (insertionNumber book (now (own .entry)) (now (delta .entry)) kind (now (values .entry))) (insertionLabel book (now (own .entry)) (now (delta .entry)) kind (now (values .entry))) ⌝ }
-    ensures words { λ _. ⌜ now (own .exit) ≡ insertionTable book (now (own .entry)) (now (delta .entry)) kind (now (values .entry)) ⌝ }
-    ensures delta_words { λ _. ⌜ now (delta .exit) ≡ insertionDelta book (now (own .entry)) (now (delta .entry)) kind (now (values .entry)) ⌝ }
-{
-    let schema = book_schema::schema();
-    edits::insertion(&schema, own, delta, kind, values)
-}
 
 // Whether record `index` is of relation `kind`.
 fn is_of(own: &[u64], index: usize, kind: usize) -> bool

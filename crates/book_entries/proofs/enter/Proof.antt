@@ -1,9 +1,9 @@
--- `book_edits::enter` meets its contract. It is the library's insertion under the herd book's schema.
+-- `book_entries::enter` meets its contract. It is the library's insertion under the herd book's schema.
 -- Assumes nothing.
-use Rattle.book_edits.proofs.Calls.{entered}
+use Rattle.book_entries.proofs.Entered.{entered}
 use borrow.Author.Needs.{needs}
-use Rattle.book_edits.proofs.enter.Statement.{statement}
-use Rattle.book_edits.proofs.enter.Tie as tie
+use Rattle.book_entries.proofs.enter.Statement.{statement}
+use Rattle.book_entries.proofs.enter.Tie as tie
 
 schema-requires : tie.Need-schema-requires
 schema-requires c κs = search needs

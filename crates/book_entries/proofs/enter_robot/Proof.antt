@@ -1,8 +1,8 @@
--- `book::enter_robot` meets its contract: it is `book_edits::enter`.
+-- `book_entries::enter_robot` meets its contract: it is `enter`.
 -- Assumes nothing.
 use borrow.Author.Needs.{needs}
-use Rattle.book.proofs.enter_robot.Statement.{statement}
-use Rattle.book.proofs.enter_robot.Tie as tie
+use Rattle.book_entries.proofs.enter_robot.Statement.{statement}
+use Rattle.book_entries.proofs.enter_robot.Tie as tie
 
 slice-aggregate-enter : tie.Need-slice-aggregate-enter
 slice-aggregate-enter c = search needs

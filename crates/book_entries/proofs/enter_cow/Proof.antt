@@ -1,8 +1,8 @@
--- `book::enter_milking` meets its contract: it is `book_edits::enter`.
+-- `book_entries::enter_cow` meets its contract: it is `enter`.
 -- Assumes nothing.
 use borrow.Author.Needs.{needs}
-use Rattle.book.proofs.enter_milking.Statement.{statement}
-use Rattle.book.proofs.enter_milking.Tie as tie
+use Rattle.book_entries.proofs.enter_cow.Statement.{statement}
+use Rattle.book_entries.proofs.enter_cow.Tie as tie
 
 slice-aggregate-enter : tie.Need-slice-aggregate-enter
 slice-aggregate-enter c = search needs
@@ -19,6 +19,6 @@ same-length-2 c = search needs
 returns : tie.Need-returns
 returns c = c .before .before .before .before .enter .ensures
 
-pub enter-milking-spec : {M : Type 1} → statement M
-enter-milking-spec =
+pub enter-cow-spec : {M : Type 1} → statement M
+enter-cow-spec =
     tie.close (tie.spec slice-aggregate-enter enter-requires same-length same-length-2 returns)
