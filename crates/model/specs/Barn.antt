@@ -50,9 +50,9 @@ pair tag chip tag′ chip′ =
 buffer : List ℕ
 buffer = replicate deltaWords 0
 
-enters : ℕ → List ℕ → ℕ → Bool
+enters : ℕ → List ℕ → ℕ → ℕ → Bool
 unfolding barn buffer
-enters kind values answer = eqb (insertionNumber book (barn 0) buffer kind values) answer
+enters kind values answer label = eqb (insertionNumber book (barn 0) buffer kind values) answer && eqb (insertionLabel book (barn 0) buffer kind values) label
 
 changes : ℕ → ℕ → ℕ → ℕ → ℕ → Bool
 unfolding barn buffer
@@ -62,27 +62,28 @@ strikes : ℕ → ℕ → ℕ → Bool
 unfolding barn buffer
 strikes kind i answer = eqb (strikeNumber kind (barn 0) buffer i) answer
 
-finds : List ℕ → ℕ → ℕ → Bool
-finds t l i = eqb (findIndex t l) i
+finds : List ℕ → ℕ → ℕ → ℕ → Bool
+finds t l answer i = eqb (findNumber t) answer && eqb (findIndex t l) i
 
 shows : List ℕ → List ℕ → Bool
 shows t marks = sameWords (marksMarks book t (0 ∷ 0 ∷ [])) marks
 
 -- The schema is good, and each kind is entered; a reference may be empty.
 unfoldable pub entered : Bool
-unfolding barn buffer enters
+unfolding enters
 entered =
     eqb (schemaNumber book) 0
-    && eqb (insertionLabel book (barn 0) buffer groups (13 ∷ [])) (labelOf 6 1)
-    && enters cows (41 ∷ 71 ∷ group ∷ []) 0
-    && enters robots (6 ∷ []) 0
-    && enters milkings (0 ∷ 0 ∷ 9100 ∷ 384 ∷ 700 ∷ []) 0
-    && enters cleanings (robot ∷ 710 ∷ 720 ∷ []) 0
-    && enters treatments (cow ∷ 800 ∷ 900 ∷ []) 0
-    -- a reference that is no label; the robot's label as a cow's; a key that is taken
-    && enters treatments (7 ∷ 800 ∷ 900 ∷ []) 7
-    && enters treatments (robot ∷ 800 ∷ 900 ∷ []) 8
-    && enters groups (12 ∷ []) 9 && enters robots (5 ∷ []) 9 && enters cows (41 ∷ 70 ∷ group ∷ []) 9
+    && enters groups (13 ∷ []) 0 (labelOf 6 1)
+    && enters cows (41 ∷ 71 ∷ group ∷ []) 0 (labelOf 6 1) && enters cows (41 ∷ 71 ∷ 0 ∷ []) 0 (labelOf 6 1)
+    && enters robots (6 ∷ []) 0 (labelOf 6 1)
+    && enters milkings (cow ∷ robot ∷ 9100 ∷ 384 ∷ 700 ∷ []) 0 (labelOf 6 1) && enters milkings (0 ∷ 0 ∷ 9100 ∷ 384 ∷ 700 ∷ []) 0 (labelOf 6 1)
+    && enters cleanings (robot ∷ 710 ∷ 720 ∷ []) 0 (labelOf 6 1)
+    && enters treatments (cow ∷ 800 ∷ 900 ∷ []) 0 (labelOf 6 1)
+    -- a reference that is no label; the robot's label as a cow's; each key
+    && enters treatments (7 ∷ 800 ∷ 900 ∷ []) 7 0
+    && enters treatments (robot ∷ 800 ∷ 900 ∷ []) 8 0
+    && enters groups (12 ∷ []) 9 0 && enters robots (5 ∷ []) 9 0
+    && enters cows (40 ∷ 71 ∷ group ∷ []) 9 0 && enters cows (41 ∷ 70 ∷ group ∷ []) 9 0
 
 -- "with 6 also for a record of another kind": after 1 and 3, before 7.
 unfoldable pub ofItsKind : Bool
@@ -96,20 +97,20 @@ ofItsKind =
     && strikes groups 1 10 && strikes cows 1 6 && strikes groups 0 1
     && eqb (changeNumber robots (barn 65536) buffer 2 2 72) 3 && eqb (strikeNumber cows (barn 65536) buffer 4) 3
 
--- The shown milking of a label: struck off, or with its cow struck off, it is not shown. Past the labels lies the place of the cleaning.
+-- The shown milking of a label: struck off, or with its cow struck off, it is not shown.
 unfoldable pub foundMilkings : Bool
 unfolding barn buffer finds
 foundMilkings =
-    eqb (findNumber (barn 0)) 0 && eqb (findNumber (0 ∷ [])) 1 && eqb (findNumber (barn 65536)) 3
-    && finds (barn 0) milking 4
-    && finds (strikeTable milkings (barn 0) buffer 4) milking 0
-    && finds (barn 1) milking 0
-    && finds (barn 0) cow 0 && finds (barn 0) (labelOf 9 9) 0 && finds (barn 0) 0 0
-    && finds (barn 65536) milking 0
+    finds (barn 0) milking 0 4
+    && finds (strikeTable milkings (barn 0) buffer 4) milking 0 0
+    && finds (barn 1) milking 0 0
+    && finds (barn 0) cow 0 0 && finds (barn 0) (labelOf 9 9) 0 0 && finds (barn 0) 0 0 0
+    && finds (0 ∷ []) milking 1 0 && finds (barn 65536) milking 3 0
 
+-- A number past the labels, where the place of the cleaning lies.
 unfoldable pub pastTheLabels : Bool
 unfolding barn finds
-pastTheLabels = finds (barn 0) (labelSpan + cleaning) 0
+pastTheLabels = finds (barn 0) (labelSpan + cleaning) 0 0
 
 -- "A cow has ear tag and transponder, each a key": of two that share one, the first is shown.
 unfoldable pub keysOfCows : Bool
