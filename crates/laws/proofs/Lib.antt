@@ -11,3 +11,4 @@ pub mod Fields
 pub mod Drafts
 pub mod Total
 pub mod OfKind
+pub mod Compared

@@ -162,7 +162,7 @@ pub merged-length : (a b : List Rec) → Distinct a → length (mergedRecords a 
 merged-length a b d = sym (order-length (mergedRecords a b) (merged-distinct a b d)) ∙ ap length (order-merged a b)
 
 -- a copy of itself
-none-new : (a l : List Rec) → ((y : Rec) → y ∈ l → has a (y .key) ≡ true) → only (new a) l ≡ []
+pub none-new : (a l : List Rec) → ((y : Rec) → y ∈ l → has a (y .key) ≡ true) → only (new a) l ≡ []
 unfolding only
 none-new a [] h = refl
 none-new a (x ∷ xs) h = let e = h x (List·Memᴰ·head refl) in rw e (none-new a xs (λ y m. h y (List·Memᴰ·tail m)))
@@ -171,7 +171,7 @@ joined-self : (a : List Rec) (x : Rec) → Distinct a → x ∈ a → joinedWith
 unfolding joinedWith
 joined-self a x d m = rw (at-member a x d m) (λ i. record { key = x .key; cell = cell-lattice .idem (x .cell) i })
 
-map-self : (a l : List Rec) → ((x : Rec) → x ∈ l → joinedWith a x ≡ x) → map (joinedWith a) l ≡ l
+pub map-self : (a l : List Rec) → ((x : Rec) → x ∈ l → joinedWith a x ≡ x) → map (joinedWith a) l ≡ l
 map-self a [] h = refl
 map-self a (x ∷ xs) h = cc (h x (List·Memᴰ·head refl), map-self a xs (λ y m. h y (List·Memᴰ·tail m)))
 

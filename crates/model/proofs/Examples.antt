@@ -18,7 +18,8 @@ use Rattle.model.specs.Edits.{deltaOf, editedBy, newLabel, flagOf, flagO
 use Rattle.model.specs.Calls.{schemaLength, tableLength, deltaLength, marksLength, badIndex, schemaNumber, tableNumber, startNumber, startTable, valuesNumber, valuesPart, mergeNumber, mergeTable, marksOf, marksNumber, marksCount, marksMarks, marked, placeKey, walkNumber, walkGiven, walkPlace, editNumber, editTable, editDelta, insertionOf, insertionNumber, insertionLabel, insertionTable, insertionDelta, updateOf, updateNumber, updateTable, updateDelta, deletionOf, deletionNumber, deletionTable, deletionDelta, entryAt, walked, tableWalked, shownList}
 use Rattle.model.specs.Runs.{afterCall, next, history, begun}
 use Rattle.model.specs.Cases.{pad, blockOf, herd, header, row, sameWords, sameEntries}
-use Rattle.model.specs.Examples.{answerOf, answers, blanks, other, calls, expected, tookAtEnd, sameRegs, sameRecs, within, listedAtEnd, agree, runs, crossing, crosses, chainSchema, hops, lastClock}
+use Rattle.model.specs.Examples.{answerOf, answers, blanks, other, calls, expected, tookAtEnd, within, listedAtEnd, agree, runs, crossing, crosses, chainSchema, hops, lastClock}
+use Rattle.model.specs.Compare.{sameRegs, sameRecs}
 
 pub runs-hold : runs ≡ true
 unfolding ones onesIn isLabel labelWithin deleted redone upTo joinReg joinRegs joinCell joinOpt word block relations fieldCount kindAt maskAt base capacityOf replicaAt clockAt usedAt firstAt nextAt relationAt labelAt flagAt valueAt stampAt each any from listed only some-of all-of times lowest blockRule emptyBlock broken relationOf schemaOf relationNumbered has own at insert inOrder join distinct leastAbove positionFrom recordOf decode follower encodeRecord encodeRecords encodeHeader encode contents headerRules firstsRule emptyAbove fieldRule recordRules countersRule chainFrom chainOf chainStep rises chainsRise onChain restZero wellFormed described stamped complete leads targets references equalOn conflictOn conflict live reached hop standing beaten kept grounded settled shown joinedWith mergedRecords merged tooMany deltaOf editedBy newLabel flagOf flagOnly odd redoing spent supported valuesRule newRecord insertion recordAt registerAt withRegister leading updateRedoes updateConflict update deletionRedoes deletion schemaLength tableLength deltaLength marksLength badIndex schemaNumber tableNumber startNumber startTable valuesNumber valuesPart mergeNumber mergeTable marksOf marksNumber marksCount marksMarks marked placeKey walkNumber walkGiven walkPlace editNumber editTable editDelta insertionOf insertionNumber insertionLabel insertionTable insertionDelta updateOf updateNumber updateTable updateDelta deletionOf deletionNumber deletionTable deletionDelta entryAt walked tableWalked shownList afterCall next history begun pad blockOf herd header row sameWords sameEntries answerOf answers blanks other calls expected tookAtEnd sameRegs sameRecs within listedAtEnd agree runs crossing crosses chainSchema hops

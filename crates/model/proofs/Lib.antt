@@ -3,4 +3,5 @@ pub mod Examples
 pub mod Runs
 pub mod Meaning
 pub mod Changed
+pub mod Copies
 pub mod Book

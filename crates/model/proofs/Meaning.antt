@@ -26,7 +26,8 @@ use Rattle.model.specs.Calls.{schemaLength, tableLength, deltaLength, ma
 use Rattle.model.specs.Runs.{Moment, ago, afterCall, next, history, begun}
 use Rattle.model.specs.Demand.{Commutative, Associative, Idempotent, entry, valueIn, Apart, KeysOnce, ReferencesFound, SameEdits, Listed, Converged, Demand3}
 use Rattle.model.specs.Cases.{pad, blockOf, herd, header, row, sameWords, sameEntries}
-use Rattle.model.specs.Examples.{ofGroup, ofCow, ofGroups, twoAlike, dangling, blank, answerOf, answers, first, replicas, atEnd, blanks, other, calls, expected, tookAtEnd, sameRegs, sameRecs, within, listedAtEnd, agree, runs, crossing, crosses, chainSchema, hops, lastClock}
+use Rattle.model.specs.Examples.{ofGroup, ofCow, ofGroups, twoAlike, dangling, blank, answerOf, answers, first, replicas, atEnd, blanks, other, calls, expected, tookAtEnd, within, listedAtEnd, agree, runs, crossing, crosses, chainSchema, hops, lastClock}
+use Rattle.model.specs.Compare.{sameRegs, sameRecs}
 
 -- 0 and 11 are different answers.
 apart : {X : Type 0} {n : ℕ} → n ≡ 0 → n ≡ 11 → X

@@ -26,7 +26,8 @@ use Rattle.model.specs.Calls.{schemaLength, tableLength, deltaLength, ma
 use Rattle.model.specs.Runs.{Run, Moment, ago, afterCall, next, history, begun}
 use Rattle.model.specs.Demand.{SameEdits, SameRecords, RunsConverge}
 use Rattle.model.specs.Cases.{pad, blockOf, herd, header, row, sameWords, sameEntries}
-use Rattle.model.specs.Examples.{blank, answerOf, answers, first, replicas, atEnd, blanks, other, calls, expected, tookAtEnd, sameRegs, sameRecs, within, listedAtEnd, agree, runs, crossing, crosses, chainSchema, hops, lastClock}
+use Rattle.model.specs.Examples.{blank, answerOf, answers, first, replicas, atEnd, blanks, other, calls, expected, tookAtEnd, within, listedAtEnd, agree, runs, crossing, crosses, chainSchema, hops, lastClock}
+use Rattle.model.specs.Compare.{sameRegs, sameRecs}
 
 -- A refused call may be lent any schema and any words.
 refused : {A : Type 0} (n : ℕ) → eqb n 0 ≡ false → n ≡ 0 → A

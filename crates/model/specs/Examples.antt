@@ -1,20 +1,19 @@
 -- An example run (document 01, "Runs"), as data: calls on four tables, the answer of each, and what the tables then hold and show.
 -- Assumes nothing.
 use Prim.Native.Nat.{ℕ, _+_, _*_, _-_}
-use mathlib.Core.Bool.{Bool, true, false, cond, _&&_, _||_, not}
+use mathlib.Core.Bool.{Bool, cond, _&&_, _||_, not}
 use mathlib.Core.List.{List, [], _∷_, _++_, map}
 use mathlib.Core.Option.{Option, none, some}
 use lib.Dec.{eqb, leb}
 use lib.ListN.{length, replicate}
 use Rattle.crdt.specs.Labels.{largestCounter, labelOf}
-use Rattle.crdt.specs.Cells.{Reg, Cell}
 use Rattle.model.specs.Layout.{mostRelations, blockWords, headerWords, zeroWords, recordWords, deltaWords, usedAt}
 use Rattle.model.specs.Lists.{some-of, all-of}
-use Rattle.model.specs.Records.{Rec, inOrder}
 use Rattle.model.specs.Tables.{decode, Contents, contents}
 use Rattle.model.specs.Calls.{tableNumber, startNumber, mergeNumber, insertionNumber, updateNumber, deletionNumber, Entry, shownList}
 use Rattle.model.specs.Runs.{Source, copy, delta, words, Call, start, merge, insertion, update, deletion, Moment, ago, otherWords, next, history, begun}
 use Rattle.model.specs.Cases.{pad, blockOf, herd, header, row, sameWords, sameEntries}
+use Rattle.model.specs.Compare.{sameRecs}
 
 -- The answer of a call.
 unfoldable pub answerOf : Moment → List Moment → Call → ℕ
@@ -103,18 +102,6 @@ calls =
 
 unfoldable pub expected : List ℕ
 expected = 4 ∷ 9 ∷ 6 ∷ 10 ∷ 3 ∷ 0 ∷ 11 ∷ 0 ∷ 0 ∷ 0 ∷ 0 ∷ 0 ∷ 0 ∷ 0 ∷ 0 ∷ 0 ∷ 0 ∷ 0 ∷ 0 ∷ []
-
-unfoldable pub sameRegs : List Reg → List Reg → Bool
-sameRegs [] [] = true
-sameRegs [] (y ∷ ys) = false
-sameRegs (x ∷ xs) [] = false
-sameRegs (x ∷ xs) (y ∷ ys) = eqb (x .value) (y .value) && eqb (x .stamp) (y .stamp) && sameRegs xs ys
-
-unfoldable pub sameRecs : List Rec → List Rec → Bool
-sameRecs [] [] = true
-sameRecs [] (y ∷ ys) = false
-sameRecs (x ∷ xs) [] = false
-sameRecs (x ∷ xs) (y ∷ ys) = eqb (x .key) (y .key) && eqb (x .cell .flag) (y .cell .flag) && sameRegs (x .cell .regs) (y .cell .regs) && sameRecs xs ys
 
 -- Each number of one list is in the other.
 unfoldable pub within : List ℕ → List ℕ → Bool

@@ -11,10 +11,12 @@ pub mod Edits
 pub mod Calls
 pub mod Runs
 pub mod Demand
+pub mod Compare
 pub mod Cases
 pub mod Second
 pub mod Examples
 pub mod Changed
+pub mod Copies
 pub mod Book
 pub mod Barn
 pub mod BookRuns

@@ -4,5 +4,6 @@ pub mod Refusals
 pub mod Shown
 pub mod Edges
 pub mod Changed
+pub mod Compared
 pub mod Book
 pub mod BookRuns
