@@ -24,7 +24,9 @@ use Rattle.answers.specs.declared.DeletionAnswer.{DeletionAnswer}
 use Rattle.answers.specs.declared.DeletionAnswer.the-variants as deletion
 use Rattle.answers.specs.declared.FindAnswer.{FindAnswer}
 use Rattle.answers.specs.declared.FindAnswer.the-variants as find
-use Rattle.answers.specs.Told.{Told, Determined, schemaTold, tableTold, startTold, mergeTold, marksTold, walkTold, insertionTold, updateTold, deletionTold, findTold}
+use Rattle.answers.specs.declared.CompareAnswer.{CompareAnswer}
+use Rattle.answers.specs.declared.CompareAnswer.the-variants as compare
+use Rattle.answers.specs.Told.{Told, Determined, schemaTold, tableTold, startTold, mergeTold, marksTold, walkTold, insertionTold, updateTold, deletionTold, findTold, compareTold}
 
 -- An answer that can be read back from what is told of it is determined.
 read-back : {A : Type 0} (f : A → Told) (g : Told → A) → ((a : A) → g (f a) ≡ a) → Determined f
@@ -165,3 +167,21 @@ find-back find.TableBroken = refl
 
 pub find-determined : Determined findTold
 find-determined = read-back findTold find-of find-back
+
+abbrev compare-of : Told → CompareAnswer
+compare-of x =
+    cond (eqb (x .number) 0) (cond (eqb (x .value) 1) compare.Alike (cond (eqb (x .value) 2) compare.FirstBehind (cond (eqb (x .value) 3) compare.SecondBehind compare.Neither)))
+    (cond (eqb (x .number) 1) compare.WrongLength (cond (eqb (x .number) 2) compare.SchemaBroken (cond (eqb (x .number) 3) compare.FirstBroken compare.SecondBroken)))
+
+compare-back : (a : CompareAnswer) → compare-of (compareTold a) ≡ a
+compare-back compare.Alike = refl
+compare-back compare.FirstBehind = refl
+compare-back compare.SecondBehind = refl
+compare-back compare.Neither = refl
+compare-back compare.WrongLength = refl
+compare-back compare.SchemaBroken = refl
+compare-back compare.FirstBroken = refl
+compare-back compare.SecondBroken = refl
+
+pub compare-determined : Determined compareTold
+compare-determined = read-back compareTold compare-of compare-back

@@ -1,6 +1,6 @@
 -- What each case of an answer tells: the number of document 01, "What a call hands back", and the value handed back beside it, which is the new
 -- label of an insertion, the shown count of marks, the index given by a walk and how many records a merge changed or added (document 02, F-1), the index
--- of a milking found (F-2), and 0 elsewhere; of a walk also whether the list ended. What is told determines the answer (proofs/Determined.antt).
+-- of a milking found (F-2), the verdict of a comparison (F-3), and 0 elsewhere; of a walk also whether the list ended. What is told determines the answer (proofs/Determined.antt).
 -- Assumes nothing.
 use Prim.Native.Nat.{ℕ}
 use mathlib.Core.Bool.{Bool, true, false}
@@ -25,6 +25,8 @@ use Rattle.answers.specs.declared.DeletionAnswer.{DeletionAnswer}
 use Rattle.answers.specs.declared.DeletionAnswer.the-variants as deletion
 use Rattle.answers.specs.declared.FindAnswer.{FindAnswer}
 use Rattle.answers.specs.declared.FindAnswer.the-variants as find
+use Rattle.answers.specs.declared.CompareAnswer.{CompareAnswer}
+use Rattle.answers.specs.declared.CompareAnswer.the-variants as compare
 
 pub record Told : Type 0 where
   pub number : ℕ
@@ -116,3 +118,13 @@ abbrev pub findTold : FindAnswer → Told
 findTold (find.Given v) = told 0 v
 findTold find.WrongLength = told 1 0
 findTold find.TableBroken = told 3 0
+
+abbrev pub compareTold : CompareAnswer → Told
+compareTold compare.Alike = told 0 1
+compareTold compare.FirstBehind = told 0 2
+compareTold compare.SecondBehind = told 0 3
+compareTold compare.Neither = told 0 4
+compareTold compare.WrongLength = told 1 0
+compareTold compare.SchemaBroken = told 2 0
+compareTold compare.FirstBroken = told 3 0
+compareTold compare.SecondBroken = told 4 0

@@ -1,7 +1,7 @@
 // The answers of the calls of document 01, "What a call hands back": an enum for each call, with the page's number and the values
 // of each case.
 ghost use mathlib.Core.Path.{_≡_};
-ghost use Rattle.answers.specs.Told.{schemaTold, tableTold, startTold, mergeTold, marksTold, walkTold, insertionTold, updateTold, deletionTold, findTold};
+ghost use Rattle.answers.specs.Told.{schemaTold, tableTold, startTold, mergeTold, marksTold, walkTold, insertionTold, updateTold, deletionTold, findTold, compareTold};
 
 // Schema check.
 pub enum SchemaAnswer {
@@ -310,6 +310,51 @@ impl FindAnswer {
             FindAnswer::Given(i) => i,
             FindAnswer::WrongLength => 0,
             FindAnswer::TableBroken => 0,
+        }
+    }
+}
+
+// Which of two copies is ahead, with the verdict.
+pub enum CompareAnswer {
+    Alike,
+    FirstBehind,
+    SecondBehind,
+    Neither,
+    WrongLength,
+    SchemaBroken,
+    FirstBroken,
+    SecondBroken,
+}
+
+impl CompareAnswer {
+    pub fn number(self) -> u64
+        ensures { λ r. ⌜ r ≡ compareTold self .number ⌝ }
+    {
+        match self {
+            CompareAnswer::Alike => 0,
+            CompareAnswer::FirstBehind => 0,
+            CompareAnswer::SecondBehind => 0,
+            CompareAnswer::Neither => 0,
+            CompareAnswer::WrongLength => 1,
+            CompareAnswer::SchemaBroken => 2,
+            CompareAnswer::FirstBroken => 3,
+            CompareAnswer::SecondBroken => 4,
+        }
+    }
+
+    // 1 alike, 2 the first is behind, 3 the second is behind, 4 neither contains the other; 0 in a refusal.
+    pub fn verdict(self) -> u64
+        ensures { λ r. ⌜ r ≡ compareTold self .value ⌝ }
+    {
+        match self {
+            CompareAnswer::Alike => 1,
+            CompareAnswer::FirstBehind => 2,
+            CompareAnswer::SecondBehind => 3,
+            CompareAnswer::Neither => 4,
+            CompareAnswer::WrongLength => 0,
+            CompareAnswer::SchemaBroken => 0,
+            CompareAnswer::FirstBroken => 0,
+            CompareAnswer::SecondBroken => 0,
         }
     }
 }
