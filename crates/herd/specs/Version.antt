@@ -8,12 +8,12 @@ major = 2
 
 -- Something was added, and what there was is the same.
 abbrev pub minor : ℕ
-minor = 1
+minor = 2
 
 -- Neither; the code is another.
 abbrev pub patch : ℕ
 patch = 0
 
--- One number, which is the larger the later the version is: 2.1.0 is 20100.
+-- One number, which is the larger the later the version is: 2.2.0 is 20200.
 abbrev pub version : ℕ
 version = major * 10000 + minor * 100 + patch

@@ -2,12 +2,13 @@
 // stands here.
 ghost use mathlib.Core.Path.{_≡_};
 ghost use Rattle.model.specs.Calls.{schemaNumber, tableNumber, startNumber, startTable, valuesNumber, valuesFirst, mergeNumber, mergeTable, mergeChanged, marksNumber, marksCount, marksMarks, walkNumber, walkGiven, walkPlace, insertionNumber, insertionLabel, insertionTable, insertionDelta, updateNumber, updateTable, updateDelta, deletionNumber, deletionTable, deletionDelta};
+ghost use Rattle.model.specs.Compare.{compareNumber, compareVerdict};
 ghost use Rattle.herd.specs.Version.{version};
 
 // The parts of the version. CHANGELOG.md tells when each one rises.
 const MAJOR: u64 = 2;
 
-const MINOR: u64 = 1;
+const MINOR: u64 = 2;
 
 const PATCH: u64 = 0;
 
@@ -60,6 +61,22 @@ pub extern "C" fn herd_merge(
 {
     let answer = merge::merge(schema, own, other);
     *changed = answer.changed() as u64;
+    answer.number()
+}
+
+// Which of two copies is ahead, for C: the answer's number; `verdict` becomes 1 to 4, 0 in a refusal.
+#[no_mangle]
+pub extern "C" fn herd_compare(
+    schema: &[u64],
+    first: &[u64],
+    second: &[u64],
+    verdict: &mut u64,
+) -> u64
+    ensures answer { λ r. ⌜ r ≡ compareNumber (now (schema .entry)) (now (first .entry)) (now (second .entry)) ⌝ }
+    ensures verdict { λ _. ⌜ now (verdict .exit) ≡ compareVerdict (now (schema .entry)) (now (first .entry)) (now (second .entry)) ⌝ }
+{
+    let answer = compare::compare(schema, first, second);
+    *verdict = answer.verdict();
     answer.number()
 }
 

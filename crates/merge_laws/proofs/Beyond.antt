@@ -98,7 +98,7 @@ beyond-same k m o f g = ext 0 _ _ (beyond-weak k o) (beyond-weak m o) (λ j. at-
         both false true = refl
         both false false = refl
 
-in-at : (s : List Rec) (n : ℕ) → n < length s → getD s n noRec ∈ s
+pub in-at : (s : List Rec) (n : ℕ) → n < length s → getD s n noRec ∈ s
 in-at [] n h = absurd (omega arith)
 in-at (x ∷ xs) zero h = List·Memᴰ·head refl
 in-at (x ∷ xs) (suc n) h = List·Memᴰ·tail (in-at xs n (omega arith))
@@ -108,7 +108,7 @@ module _ (v : Table) (w : SoundTable v) where
   o = v .records
 
   -- what is known of a key
-  key-sound : (j : ℕ) → has (v .records) j ≡ true → (1 ≤ j / labelSpan) × (j / labelSpan ≤ mostRelations) × (1 ≤ j % labelSpan)
+  pub key-sound : (j : ℕ) → has (v .records) j ≡ true → (1 ≤ j / labelSpan) × (j / labelSpan ≤ mostRelations) × (1 ≤ j % labelSpan)
   key-sound j h =
       let p = position-some j (v .records) h in
       let x = w .sound (position j (v .records)) (p .from-one) (p .within) in

@@ -55,7 +55,7 @@ pub record Going (t b : List ℕ) (r j a : ℕ) : Type 0 where
   pub linked : Linked (decode t .records) r (key % labelSpan) a
 
 module _ (t b : List ℕ) (wt : Whole t) (wb : Whole b) (r : ℕ) (r₁ : 1 ≤ r) (r₂ : r ≤ mostRelations) where
-  pub going-start : (j a : ℕ) → j ≡ firstAt b r → a ≡ firstWords + (r - 1) → Going t b r j a
+  unfoldable pub going-start : (j a : ℕ) → j ≡ firstAt b r → a ≡ firstWords + (r - 1) → Going t b r j a
   going-start j a e d =
       record {
         key = place r 0;
@@ -86,10 +86,10 @@ module _ (t b : List ℕ) (wt : Whole t) (wb : Whole b) (r : ℕ) (r₁ : 1 ≤ 
       pub of-relation : relationAt b j ≡ r
       of-relation = relation-is b wb j (in-chain .here) (in-chain .within) ∙ in-chain .related
 
-      of-label : labelAt b j ≡ label (nth (recordsIn b) j)
+      pub of-label : labelAt b j ≡ label (nth (recordsIn b) j)
       of-label = label-is b wb j (in-chain .here) (in-chain .within)
 
-      of-key : place r (labelAt b j) ≡ nth (recordsIn b) j .key
+      pub of-key : place r (labelAt b j) ≡ nth (recordsIn b) j .key
       of-key = omega (arith, of-label, in-chain .related)
 
       pub going-linked : Linked (recordsIn t) r (labelAt b j) a
@@ -101,7 +101,7 @@ module _ (t b : List ℕ) (wt : Whole t) (wb : Whole b) (r : ℕ) (r₁ : 1 ≤ 
       pub going-rest : beyond (g .key) (recordsIn b) ≡ nth (recordsIn b) j ∷ beyond (nth (recordsIn b) j .key) (recordsIn b)
       going-rest = beyond-next (decode b) (wb .value) r (g .key) j (g .related) in-chain
 
-      pub going-on : (t' : List ℕ) (j' a' : ℕ) → Linked (recordsIn t') r (labelAt b j) a' → j' ≡ nextAt b j → Going t' b r j' a'
+      unfoldable pub going-on : (t' : List ℕ) (j' a' : ℕ) → Linked (recordsIn t') r (labelAt b j) a' → j' ≡ nextAt b j → Going t' b r j' a'
       going-on t' j' a' l e =
           record {
             key = nth (recordsIn b) j .key;
