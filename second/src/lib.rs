@@ -10,6 +10,7 @@
 
 pub mod book;
 pub mod cases;
+pub mod compare;
 pub mod edit;
 pub mod inputs;
 pub mod label;
@@ -26,6 +27,7 @@ pub mod vectors;
 #[cfg(test)]
 mod tests;
 
+pub use compare::{compare, Verdict};
 pub use edit::{deletion, insertion, update};
 pub use label::{delete, join_flags, join_registers, label_of, redo, Register};
 pub use merge::merge;

@@ -195,6 +195,50 @@ rules! {
     /// "such a change", of a register or a flag. Dropped: a larger clock counts too.
     ClockNotCounted,
 
+    // Which copy is ahead.
+    /// "exactly the second's clock, records, registers and flags": the clock.
+    ComparedClock,
+    /// "exactly the second's [...] records". Dropped: a record of one alone does not count.
+    ComparedRecords,
+    /// "records": incomplete ones too. Dropped: complete ones alone.
+    ComparedIncomplete,
+    /// "records": hidden ones too. Dropped: shown ones alone.
+    ComparedHidden,
+    /// "records": those with flag 0 and no stamps too. Dropped: the others alone.
+    ComparedBare,
+    /// "exactly the second's [...] registers": the values.
+    ComparedValues,
+    /// "exactly the second's [...] registers": the stamps.
+    ComparedStamps,
+    /// "exactly the second's [...] flags".
+    ComparedFlags,
+    /// "and the first has not". Dropped: of two that are alike the first is behind.
+    FirstHasNot,
+    /// The same of the second. Dropped: of two that are alike the second is behind.
+    SecondHasNot,
+    /// "Capacities play no part": those of the tables. Dropped: they are compared.
+    CapacityNoPart,
+    /// "Capacities play no part": room for the merge. Dropped: a merge that has no room in the first
+    /// leaves it as it is.
+    RoomNoPart,
+    /// "The contents of a table are its clock and, for each relation and label it holds, that
+    /// record's flag, values and stamps": not the replica number. Dropped: it is compared.
+    ReplicaNoPart,
+    /// The same: not the positions. Dropped: they are compared.
+    PositionNoPart,
+    /// 1: "a lent slice [...] has a wrong length": the schema's.
+    ComparedSchemaLength,
+    /// 1: "a lent slice [...] has a wrong length": the first table's.
+    FirstLength,
+    /// 1: "a lent slice [...] has a wrong length": the second table's.
+    SecondLength,
+    /// "Either table being damaged gives 3 for the first". Dropped: 4.
+    FirstDamaged,
+    /// "Either table being damaged gives [...] 4 for the second". Dropped: 3.
+    SecondDamaged,
+    /// "the lowest that applies is the answer": 3 where both are damaged. Dropped: 4.
+    FirstBeforeSecond,
+
     // Insertion.
     /// "the new label is clock + 1 with the own replica number": the number. Dropped: 1.
     NewLabelReplica,

@@ -3,6 +3,7 @@
 mod book;
 mod cases;
 mod changes;
+mod compare;
 mod edges;
 mod edits;
 mod fleets;

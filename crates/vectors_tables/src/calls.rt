@@ -134,6 +134,15 @@ fn merge(s: &[u8], taken: Inputs, schema: &[u64], own: &mut [u64], third: &[u64]
     items::with_exit(s, counted, taken.own, own)
 }
 
+fn compare(s: &[u8], taken: Inputs, schema: &[u64], own: &[u64], third: &[u64]) -> Back {
+    let n = stream::words_of(s, taken.schema, schema);
+    let m = stream::words_of(s, taken.own, own);
+    let k = stream::words_of(s, taken.third, third);
+    let got = compare::compare(&schema[0..n], &own[0..m], &third[0..k]);
+    let back = items::answered(s, taken.at, taken.words, taken.sum, got.number());
+    items::with_result(s, back, got.verdict())
+}
+
 pub fn run(
     s: &[u8],
     c: Cursor,
@@ -183,6 +192,7 @@ fn run_loaded(
         8 => start(s, taken, own),
         9 => values_of(s, taken, own),
         10 => merge(s, taken, schema, own, third),
+        31 => compare(s, taken, schema, own, third),
         _ => items::unknown(taken),
     }
 }

@@ -15,8 +15,8 @@ enum Demand {
 
 use Demand::{Decided, Follows};
 
-/// How many items must decide a rule of the redoing, of how much a merge changed, or of the herd
-/// book.
+/// How many items must decide a rule of the redoing, of how much a merge changed, of which copy is
+/// ahead, or of the herd book.
 const MANY: usize = 20;
 
 /// Every rule has its line here: a match without one does not compile.
@@ -72,6 +72,26 @@ fn demand(rule: Rule) -> Demand {
         | Rule::AddedCountedOnce
         | Rule::AddedCountedBare
         | Rule::ClockNotCounted
+        | Rule::ComparedClock
+        | Rule::ComparedRecords
+        | Rule::ComparedIncomplete
+        | Rule::ComparedHidden
+        | Rule::ComparedBare
+        | Rule::ComparedValues
+        | Rule::ComparedStamps
+        | Rule::ComparedFlags
+        | Rule::FirstHasNot
+        | Rule::SecondHasNot
+        | Rule::CapacityNoPart
+        | Rule::RoomNoPart
+        | Rule::ReplicaNoPart
+        | Rule::PositionNoPart
+        | Rule::ComparedSchemaLength
+        | Rule::FirstLength
+        | Rule::SecondLength
+        | Rule::FirstDamaged
+        | Rule::SecondDamaged
+        | Rule::FirstBeforeSecond
         | Rule::KindsInOrder
         | Rule::FieldsInOrder
         | Rule::GroupNumberIsKey
@@ -253,6 +273,27 @@ fn changes_are_decided_by_joins_and_by_merges() {
             let count = without(rule, || differences(&of_call));
             assert!(count >= MANY, "{:?} {} {}", rule, call, count);
         }
+    }
+}
+
+/// Which copy is ahead goes by the merge: its rules of clock, records, registers and flags decide
+/// comparisons too.
+#[test]
+fn comparisons_are_decided_by_the_merge() {
+    let items = single_items();
+    let compares: Vec<(Item, Outcome)> =
+        items.into_iter().filter(|(item, _)| item.call == vectors::COMPARE).collect();
+    for rule in [
+        Rule::LargerClock,
+        Rule::AddOthers,
+        Rule::JoinRegisters,
+        Rule::JoinFlags,
+        Rule::LargerStamp,
+        Rule::LargerValue,
+        Rule::LargerFlag,
+    ] {
+        let count = without(rule, || differences(&compares));
+        assert!(count >= MANY, "{:?} {}", rule, count);
     }
 }
 

@@ -8,8 +8,8 @@ use crate::list::list;
 use crate::random::{self, Random, Shape};
 use crate::table::{Record, Table};
 use crate::{
-    deletion, insertion, marks, merge, number, schema_check, start, table_check, update, values,
-    walk,
+    compare, deletion, insertion, marks, merge, number, schema_check, start, table_check, update,
+    values, walk,
 };
 use std::collections::BTreeMap;
 
@@ -145,6 +145,7 @@ fn no_words_panic() {
         let _ = schema_check(&schema);
         let _ = table_check(&schema, &own);
         let _ = values(&own, a);
+        let _ = compare(&schema, &own, &other);
         let _ = merge(&schema, &mut own, &other);
         let _ = insertion(&schema, &mut own, &mut written, a, &[b, c]);
         let _ = update(&schema, &mut own, &mut written, a, b, c);

@@ -5,6 +5,8 @@ mod book_find;
 mod book_tables;
 mod capacities;
 mod changes;
+mod compares;
+mod copies;
 mod damage;
 mod edges;
 mod edits;
@@ -71,5 +73,6 @@ pub fn vectors(seed: u64) -> Vec<Item> {
     changes::changes(&mut items, &mut random);
     book::book(&mut items, &mut random);
     book_find::finds(&mut items, &mut random);
+    compares::compares(&mut items, &mut random);
     items.into_items()
 }

@@ -85,9 +85,10 @@ pub const BOOK_ENTER: u8 = 27;
 pub const BOOK_CHANGE: u8 = 28;
 pub const BOOK_STRIKE: u8 = 29;
 pub const BOOK_FIND: u8 = 30;
+pub const COMPARE: u8 = 31;
 
 /// The shape of each call, from call 1 on.
-pub const SHAPES: [Shape; 30] = [
+pub const SHAPES: [Shape; 31] = [
     shape("label_of", &[], 2, 1, &[], TABLES),
     shape("register_join", &[], 4, 3, &[], TABLES),
     shape("flag_join", &[], 2, 2, &[], TABLES),
@@ -118,10 +119,11 @@ pub const SHAPES: [Shape; 30] = [
     shape("book_change", &[TABLE, THIRD], 4, 0, &[TABLE, THIRD], BOOK),
     shape("book_strike", &[TABLE, THIRD], 2, 0, &[TABLE, THIRD], BOOK),
     shape("book_find", &[TABLE], 1, 1, &[], BOOK),
+    shape("compare", &[SCHEMA, TABLE, THIRD], 0, 1, &[], TABLES),
 ];
 
 /// The names of the categories, from category 1 on.
-pub const CATEGORIES: [&str; 62] = [
+pub const CATEGORIES: [&str; 74] = [
     "labels, registers and flags",
     "schemas at their limits",
     "schemas with one rule broken",
@@ -184,6 +186,18 @@ pub const CATEGORIES: [&str; 62] = [
     "book: numbers that no milking has",
     "book: refused searches",
     "book: capacities 0 and 4,096",
+    "compare: alike",
+    "compare: a clock, a value, a stamp, a flag or a record alone",
+    "compare: several of these",
+    "compare: each has what the other has not",
+    "compare: incomplete, hidden and bare records",
+    "compare: merges without room",
+    "compare: before and after an edit, and its delta",
+    "compare: tables of fleets",
+    "compare: one word changed",
+    "compare: each refusal",
+    "compare: the order of the refusals",
+    "compare: capacities 0 and 4,096",
 ];
 
 pub fn shape_of(call: u8) -> Option<&'static Shape> {

@@ -3,12 +3,13 @@
 use super::fleet::Fleet;
 use super::item::*;
 use crate::book;
+use crate::compare::told;
 use crate::label::{delete, join_flags, join_registers, label_of, redo, Register};
 use crate::layout::FIELDS;
 use crate::shown::given;
 use crate::{
-    deletion, insertion, marks, merge, number, schema_check, start, table_check, update, values,
-    walk,
+    compare, deletion, insertion, marks, merge, number, schema_check, start, table_check, update,
+    values, walk,
 };
 
 fn result(word: u64) -> Outcome {
@@ -70,6 +71,10 @@ fn run_table(item: &Item) -> Outcome {
             let mut own = s[1].clone();
             let answer = merge(&s[0], &mut own, &s[2]);
             outcome(number(&answer), vec![answer.unwrap_or(0) as u64], vec![own])
+        }
+        COMPARE => {
+            let answer = compare(&s[0], &s[1], &s[2]);
+            outcome(number(&answer), vec![told(&answer)], vec![])
         }
         MARKS => {
             let mut found = bytes(&s[2]);
