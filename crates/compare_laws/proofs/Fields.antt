@@ -9,7 +9,7 @@ use native.Mathlib.Numerals.{add-one}
 use lib.Dec.{leb}
 use Rattle.crdt.specs.Cells.{Reg, reg, upTo}
 use Rattle.crdt.proofs.Tests.{and-none, and-all}
-use Rattle.model.specs.Layout.{fields, flagAt, valueAt, stampAt}
+use Rattle.model.specs.Layout.{fields, headWords, word, base, flagAt, valueAt, stampAt}
 use Rattle.model.specs.Lists.{from, listed}
 use Rattle.model.specs.Tables.{recordOf}
 use Rattle.compare_laws.specs.UpTo.{regsUpTo, cellUpTo, fieldUpTo, fieldsUpTo, recordUpTo}
@@ -27,40 +27,44 @@ regs-more i (suc n) f g =
     let h = rw e at (regs-more (suc i) n f g) in
     ap (λ (x : Bool). upTo (f i) (g i) && x) h ∙ and-assoc (upTo (f i) (g i)) (regsUpTo (from (suc i) n f) (from (suc i) n g)) (upTo (f (i + suc n)) (g (i + suc n)))
 
-module _ (t b : List ℕ) (i j : ℕ) where
-  fields-regs : (n : ℕ) → fieldsUpTo n t i b j ≡ regsUpTo (listed n (λ (f : ℕ). reg (valueAt t i f) (stampAt t i f))) (listed n (λ (f : ℕ). reg (valueAt b j f) (stampAt b j f)))
-  unfolding fieldsUpTo fieldUpTo listed from regsUpTo
-  fields-regs zero = refl
-  fields-regs (suc n) =
-      let e : 1 + n ≡ suc n = omega arith in
-      let h = rw e at (regs-more 1 n (λ (f : ℕ). reg (valueAt t i f) (stampAt t i f)) (λ (f : ℕ). reg (valueAt b j f) (stampAt b j f))) in
-      ap (λ (x : Bool). x && upTo (reg (valueAt t i (suc n)) (stampAt t i (suc n))) (reg (valueAt b j (suc n)) (stampAt b j (suc n)))) (fields-regs n) ∙ sym h
+-- the register f words behind word p
+behind : List ℕ → ℕ → ℕ → Reg
+behind t p f = reg (word t (p + f)) (word t (p + fields + f))
 
-  pub record-cells : recordUpTo t i b j ≡ cellUpTo (recordOf t i .cell) (recordOf b j .cell)
-  unfolding recordUpTo cellUpTo recordOf
-  record-cells = ap (λ (x : Bool). leb (flagAt t i) (flagAt b j) && x) (fields-regs fields)
+fields-regs : (t b : List ℕ) (p q n : ℕ) → fieldsUpTo n t p b q ≡ regsUpTo (listed n (behind t p)) (listed n (behind b q))
+unfolding fieldsUpTo fieldUpTo listed from regsUpTo behind
+fields-regs t b p q zero = refl
+fields-regs t b p q (suc n) =
+    let e : 1 + n ≡ suc n = omega arith in
+    let h = rw e at (regs-more 1 n (behind t p) (behind b q)) in
+    ap (λ (x : Bool). x && upTo (behind t p (suc n)) (behind b q (suc n))) (fields-regs t b p q n) ∙ sym h
 
+pub record-cells : (t b : List ℕ) (i j : ℕ) → recordUpTo t i b j ≡ cellUpTo (recordOf t i .cell) (recordOf b j .cell)
+unfolding recordUpTo cellUpTo recordOf valueAt stampAt behind
+record-cells t b i j = ap (λ (x : Bool). leb (flagAt t i) (flagAt b j) && x) (fields-regs t b (base i + (headWords - 1)) (base j + (headWords - 1)) fields)
+
+module _ (t b : List ℕ) (p q : ℕ) where
   -- fields 1 to n, one after the other
-  pub fields-none : true ≡ fieldsUpTo 0 t i b j
+  pub fields-none : true ≡ fieldsUpTo 0 t p b q
   unfolding fieldsUpTo
   fields-none = refl
 
-  pub fields-more : (n : ℕ) → true ≡ fieldsUpTo n t i b j → fieldUpTo t i b j (n + 1) ≡ true → true ≡ fieldsUpTo (n + 1) t i b j
+  pub fields-more : (n : ℕ) → true ≡ fieldsUpTo n t p b q → fieldUpTo t p b q (n + 1) ≡ true → true ≡ fieldsUpTo (n + 1) t p b q
   fields-more n e h = rw (add-one n) (unfold fieldsUpTo in rw (← e, ← add-one n, h) refl)
 
-  fails-more : (n : ℕ) → fieldsUpTo n t i b j ≡ false → fieldsUpTo (suc n) t i b j ≡ false
+  fails-more : (n : ℕ) → fieldsUpTo n t p b q ≡ false → fieldsUpTo (suc n) t p b q ≡ false
   unfolding fieldsUpTo
   fails-more n e = rw e refl
 
-  fails-on : (n m : ℕ) → fieldsUpTo n t i b j ≡ false → fieldsUpTo (m + n) t i b j ≡ false
+  fails-on : (n m : ℕ) → fieldsUpTo n t p b q ≡ false → fieldsUpTo (m + n) t p b q ≡ false
   fails-on n zero e = let q : 0 + n ≡ n = omega arith in rw q e
   fails-on n (suc m) e = let q : suc m + n ≡ suc (m + n) = omega arith in rw q (fails-more (m + n) (fails-on n m e))
 
-  pub fields-fail : (n : ℕ) → n < fields → fieldUpTo t i b j (n + 1) ≡ false → false ≡ fieldsUpTo fields t i b j
+  pub fields-fail : (n : ℕ) → n < fields → fieldUpTo t p b q (n + 1) ≡ false → false ≡ fieldsUpTo fields t p b q
   fields-fail n l h =
-      let e : fieldsUpTo (suc n) t i b j ≡ false = unfold fieldsUpTo in rw (← add-one n, h) (sym (and-none (fieldsUpTo n t i b j))) in
+      let e : fieldsUpTo (suc n) t p b q ≡ false = unfold fieldsUpTo in rw (← add-one n, h) (sym (and-none (fieldsUpTo n t p b q))) in
       let q : (fields - suc n) + suc n ≡ fields = omega arith in
       sym (rw q at (fails-on (suc n) (fields - suc n) e))
 
-  pub fields-all : (n : ℕ) → n ≤ fields → fields ≤ n → true ≡ fieldsUpTo n t i b j → true ≡ fieldsUpTo fields t i b j
-  fields-all n h p e = let q : n ≡ fields = omega arith in rw q at e
+  pub fields-all : (n : ℕ) → n ≤ fields → fields ≤ n → true ≡ fieldsUpTo n t p b q → true ≡ fieldsUpTo fields t p b q
+  fields-all n h l e = let q : n ≡ fields = omega arith in rw q at e

@@ -10,7 +10,7 @@ use native.Mathlib.Omega.{arith}
 use lib.ListN.{length}
 use borrow.Author.Tests.{eq-eqb}
 use Rattle.crdt.proofs.Tests.{test}
-use Rattle.model.specs.Layout.{mostRelations, firstWords, word, firstAt, nextAt, labelAt}
+use Rattle.model.specs.Layout.{mostRelations, mostRecords, firstWords, word, firstAt, nextAt, labelAt}
 use Rattle.model.specs.Lists.{only, all-of}
 use Rattle.model.specs.Records.{Rec, place, relation, at}
 use Rattle.model.specs.Tables.{decode, recordOf}
@@ -19,7 +19,7 @@ use Rattle.laws.proofs.Valid.{distinct-true}
 use Rattle.wellformed.proofs.Follow.{position-some}
 use Rattle.merge_laws.specs.Absorb.{nth, recordsIn, beyond, ahead, Whole, Linked, meets, Sought, Seekable}
 use Rattle.merge_laws.proofs.Beyond.{in-at}
-use Rattle.merge_laws.proofs.Walk.{record-is, found}
+use Rattle.merge_laws.proofs.Walk.{record-is, link-within, found}
 use Rattle.merge_laws.proofs.Chain.{Going, going-start, going-end, in-chain, of-label, of-key, going-linked, going-seek, going-rest, going-on, going-less, going-met}
 use Rattle.compare_laws.specs.UpTo.{optUpTo, upToIn, chainUpTo, recordUpTo}
 use Rattle.compare_laws.proofs.Fields.{record-cells}
@@ -64,6 +64,11 @@ module _ (t b : List ℕ) (wt : Whole t) (wb : Whole b) (r : ℕ) (r₁ : 1 ≤ 
       compare-less j' e = going-less t b wt wb r r₁ r₂ j a (h .going) n j' e
 
       module _ (a' : ℕ) (s : Sought t r (labelAt b j) a') where
+        pub compare-small : (j ≤ mostRecords) × (word t a' ≤ mostRecords)
+        compare-small =
+            let f = in-chain t b wt wb r r₁ r₂ j a (h .going) n in
+            (omega (arith, f .within, wb .value .room, wb .value .most), omega (arith, link-within t wt r (labelAt b j) r₁ r₂ a' (s .linked), wt .value .room, wt .value .most))
+
         -- the record met, or none
         missing : meets t a' (labelAt b j) ≡ false → upToIn (recordsIn t) (nth (recordsIn b) j) ≡ false
         unfolding upToIn optUpTo

@@ -1,12 +1,12 @@
 -- The order of registers carried on to cells and records (document 02, F-3): what the steps of a comparison promise.
 -- Assumes nothing.
-use Prim.Native.Nat.{ℕ, zero, suc}
+use Prim.Native.Nat.{ℕ, zero, suc, _+_, _-_}
 use mathlib.Core.Bool.{Bool, true, false, _&&_}
 use mathlib.Core.List.{List, [], _∷_}
 use mathlib.Core.Option.{Option, none, some}
 use lib.Dec.{eqb, leb}
 use Rattle.crdt.specs.Cells.{Reg, reg, upTo, Cell}
-use Rattle.model.specs.Layout.{fields, flagAt, valueAt, stampAt}
+use Rattle.model.specs.Layout.{fields, headWords, word, base, flagAt}
 use Rattle.model.specs.Lists.{only, all-of}
 use Rattle.model.specs.Records.{Rec, relation, at, inOrder}
 
@@ -37,13 +37,15 @@ chainUpTo s r o = all-of (upToIn s) (only (λ (x : Rec). eqb (relation x) r) (in
 unfoldable pub recordsUpTo : List Rec → List Rec → Bool
 recordsUpTo s o = all-of (upToIn s) (inOrder o)
 
--- By the words: field f of record i of table t up to that of record j of table b; fields 1 to n; the record.
+-- By the words: field f behind word p of table t up to that behind word q of table b; fields 1 to n; record i up to record j, whose fields lie
+-- behind the last word of their heads.
 unfoldable pub fieldUpTo : List ℕ → ℕ → List ℕ → ℕ → ℕ → Bool
-fieldUpTo t i b j f = upTo (reg (valueAt t i f) (stampAt t i f)) (reg (valueAt b j f) (stampAt b j f))
+fieldUpTo t p b q f = upTo (reg (word t (p + f)) (word t (p + fields + f))) (reg (word b (q + f)) (word b (q + fields + f)))
 
 unfoldable pub fieldsUpTo : ℕ → List ℕ → ℕ → List ℕ → ℕ → Bool
-fieldsUpTo zero t i b j = true
-fieldsUpTo (suc n) t i b j = fieldsUpTo n t i b j && fieldUpTo t i b j (suc n)
+fieldsUpTo zero t p b q = true
+fieldsUpTo (suc n) t p b q = fieldsUpTo n t p b q && fieldUpTo t p b q (suc n)
 
 unfoldable pub recordUpTo : List ℕ → ℕ → List ℕ → ℕ → Bool
-recordUpTo t i b j = leb (flagAt t i) (flagAt b j) && fieldsUpTo fields t i b j
+recordUpTo t i b j =
+    leb (flagAt t i) (flagAt b j) && fieldsUpTo fields t (base i + (headWords - 1)) b (base j + (headWords - 1))

@@ -2,28 +2,31 @@
 // chains of a relation are walked side by side. Nothing is written.
 ghost use mathlib.Core.Path.{_≡_};
 ghost use mathlib.Core.Bool.{_&&_};
-ghost use Prim.Native.Nat.{_≤_};
-ghost use Rattle.model.specs.Layout.{fields, mostRelations, word, labelAt};
+ghost use Prim.Native.Nat.{_^_, _≤_};
+ghost use Rattle.model.specs.Layout.{fields, mostRelations, mostRecords, word, labelAt};
 ghost use Rattle.model.specs.Tables.{contents};
 ghost use Rattle.model.specs.Compare.{joinContents, sameContents};
 ghost use Rattle.merge_laws.specs.Absorb.{recordsIn, Whole, meets};
 ghost use Rattle.compare_laws.specs.UpTo.{chainUpTo, recordsUpTo, fieldUpTo, fieldsUpTo, recordUpTo};
 
-// Whether field `f` of record `i` of the first table has an older stamp than that of record `j` of the second, or the same stamp and no larger value.
-fn field_within(first: &[u64], i: usize, second: &[u64], j: usize, f: usize) -> bool
-    ensures { λ r. ⌜ r ≡ fieldUpTo (now (first .entry)) i (now (second .entry)) j f ⌝ }
+// Whether field `f` behind word `p` of the first table has an older stamp than the one behind word `q` of the second, or the same stamp and no
+// larger value.
+fn field_within(first: &[u64], p: usize, second: &[u64], q: usize, f: usize) -> bool
+    requires { ⌜ (p ≤ 2 ^ 62) × (q ≤ 2 ^ 62) × (f ≤ fields) ⌝ }
+    ensures { λ r. ⌜ r ≡ fieldUpTo (now (first .entry)) p (now (second .entry)) q f ⌝ }
 {
-    let old = layout::stamp_at(first, i, f);
-    let new = layout::stamp_at(second, j, f);
-    (old < new) | ((old == new) & (layout::value_at(first, i, f) <= layout::value_at(second, j, f)))
+    let old = layout::word(first, p + layout::FIELDS + f);
+    let new = layout::word(second, q + layout::FIELDS + f);
+    (old < new) | ((old == new) & (layout::word(first, p + f) <= layout::word(second, q + f)))
 }
 
-fn fields_within(first: &[u64], i: usize, second: &[u64], j: usize) -> bool
-    ensures { λ r. ⌜ r ≡ fieldsUpTo fields (now (first .entry)) i (now (second .entry)) j ⌝ }
+fn fields_within(first: &[u64], p: usize, second: &[u64], q: usize) -> bool
+    requires { ⌜ (p ≤ 2 ^ 62) × (q ≤ 2 ^ 62) ⌝ }
+    ensures { λ r. ⌜ r ≡ fieldsUpTo fields (now (first .entry)) p (now (second .entry)) q ⌝ }
 {
     let mut done = 0;
     while done < layout::FIELDS {
-        if !field_within(first, i, second, j, done + 1) {
+        if !field_within(first, p, second, q, done + 1) {
             return false;
         }
         done += 1;
@@ -33,16 +36,20 @@ fn fields_within(first: &[u64], i: usize, second: &[u64], j: usize) -> bool
 
 // Whether record `j` of the first table has no larger flag than record `i` of the second, and no later register.
 fn record_within(first: &[u64], j: usize, second: &[u64], i: usize) -> bool
+    requires { ⌜ (j ≤ mostRecords) × (i ≤ mostRecords) ⌝ }
     ensures { λ r. ⌜ r ≡ recordUpTo (now (first .entry)) j (now (second .entry)) i ⌝ }
 {
     if layout::flag_at(second, i) < layout::flag_at(first, j) {
         return false;
     }
-    fields_within(first, j, second, i)
+    let p = layout::base(j) + (layout::HEAD_WORDS - 1);
+    let q = layout::base(i) + (layout::HEAD_WORDS - 1);
+    fields_within(first, p, second, q)
 }
 
 // Whether word `link` of the second table leads to record `j` of the first, up to the second's.
 fn link_within(first: &[u64], j: usize, second: &[u64], link: usize) -> bool
+    requires { ⌜ (j ≤ mostRecords) × (word (now second) link ≤ mostRecords) ⌝ }
     ensures { λ r. ⌜ r ≡ (meets (now (second .entry)) link (labelAt (now (first .entry)) j) && recordUpTo (now (first .entry)) j (now (second .entry)) (word (now (second .entry)) link)) ⌝ }
 {
     if merge_seek::meets(second, link, layout::label_at(first, j)) {

@@ -2,7 +2,7 @@
 -- Assumes nothing.
 use mathlib.Core.Path.{refl}
 use borrow.Author.Tests.{not-true, not-false}
-use Rattle.compare_within.proofs.Forms.{chain-seek, chain-turn, chain-stop, chain-done}
+use Rattle.compare_within.proofs.Forms.{chain-seek, chain-small, chain-turn, chain-stop, chain-done}
 use Rattle.merge_laws.specs.Absorb.{recordsIn, ahead}
 use Rattle.compare_laws.proofs.Steps.{Comparing, compare-start, compare-less}
 use borrow.Author.Needs.{needs}
@@ -34,7 +34,7 @@ seek-requires : tie.Need-seek-requires Inv-loop μ-loop
 seek-requires c κs = let p = c .before .before .before .before .before .before .pre in chain-seek _ _ (p .1) (p .0) _ (p .2) (p .3) _ _ (c .before .before .loop .inv) _ (c .before .loop-test .taken) (c .label-at .ensures)
 
 link-within-requires : tie.Need-link-within-requires Inv-loop μ-loop
-link-within-requires c κs = search needs
+link-within-requires c κs = let p = c .before .before .before .before .before .before .before .pre in chain-small _ _ (p .1) (p .0) _ (p .2) (p .3) _ _ (c .before .before .before .loop .inv) (c .before .before .loop-test .taken) _ _ (c .before .label-at .ensures) (c .seek .ensures)
 
 returns : tie.Need-returns Inv-loop μ-loop
 returns c = let p = c .before .before .before .before .before .before .before .before .before .pre in chain-stop _ _ (p .1) (p .0) _ (p .2) (p .3) _ _ (c .before .before .before .before .before .loop .inv) (c .before .before .before .before .loop-test .taken) _ _ _ (c .before .before .before .label-at .ensures) (c .before .before .seek .ensures) (c .before .link-within .ensures) (not-true _ (c .if1 .taken))

@@ -8,15 +8,14 @@ use borrow.Author.Tests.{not-true, not-false}
 use Rattle.model.specs.Layout.{fields}
 use Rattle.compare_laws.specs.UpTo.{fieldsUpTo}
 use Rattle.compare_laws.proofs.Fields.{fields-none, fields-more, fields-fail, fields-all}
-use borrow.Author.Needs.{needs}
 use Rattle.compare_within.proofs.fields_within.Statement.{statement}
 use Rattle.compare_within.proofs.fields_within.Tie as tie
 
 abbrev Inv-loop : tie.InvT-loop
-Inv-loop first i second j done₀ done = (done ≤ fields) × (true ≡ fieldsUpTo done first i second j)
+Inv-loop first p second q done₀ done = (done ≤ fields) × (true ≡ fieldsUpTo done first p second q)
 
 abbrev μ-loop : tie.MeasureT-loop
-μ-loop first i second j done₀ done = fields - done
+μ-loop first p second q done₀ done = fields - done
 
 loop-holds : tie.Need-loop-holds Inv-loop μ-loop
 loop-holds c = (omega arith, fields-none _ _ _ _)
@@ -25,7 +24,7 @@ add-field-within : tie.Need-add-field-within Inv-loop μ-loop
 add-field-within c = omega arith
 
 field-within-requires : tie.Need-field-within-requires Inv-loop μ-loop
-field-within-requires c κs = search needs
+field-within-requires c κs = omega arith
 
 returns : tie.Need-returns Inv-loop μ-loop
 returns c = fields-fail _ _ _ _ _ (c .before .before .loop-test .taken) (sym (c .before .field-within .ensures) ∙ not-true _ (c .if1 .taken))

@@ -1,5 +1,6 @@
 -- `compare_within::link_within` meets its contract.
 -- Assumes nothing.
+use native.Mathlib.Omega.{arith}
 use Rattle.compare_within.proofs.Forms.{link-there, link-not}
 use borrow.Author.Needs.{needs}
 use Rattle.compare_within.proofs.link_within.Statement.{statement}
@@ -15,7 +16,7 @@ word-requires : tie.Need-word-requires
 word-requires c κs = search needs
 
 record-within-requires : tie.Need-record-within-requires
-record-within-requires c κs = search needs
+record-within-requires c κs = omega (arith, c .word .ensures, c .before .before .before .before .before .before .pre)
 
 returns : tie.Need-returns
 returns c = link-there _ _ _ _ _ _ _ (c .before .before .before .before .label-at .ensures) (c .before .before .before .meets .ensures) (c .before .before .if1 .taken) (c .before .word .ensures) _ (c .record-within .ensures)
