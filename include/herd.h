@@ -8,6 +8,7 @@
  *   2. Edit (herd_insert, herd_update, herd_delete). Each edit also writes a delta; send it, or the whole table, to the others.
  *   3. Merge what arrives (herd_merge). Tables that took in the same edits, in whatever order, show the same list.
  *   4. Mark the shown records (herd_marks) and read them in order (herd_walk, herd_values).
+ *   5. Of two copies, ask which one must take in the other (herd_compare).
  *
  * A record is complete when all its fields have arrived. The complete records that are not deleted stand, and so do the complete ones that
  * standing records reference by abort. Of standing records with the same key only the oldest is kept. The kept records whose references
@@ -24,13 +25,13 @@
  *     has HERD_SCHEMA_WORDS words, a table HERD_TABLE_WORDS(N) with N from 0 to HERD_MOST_RECORDS, a delta HERD_DELTA_WORDS, and
  *     there are N marks; `Needs` below tells what else a call must be lent.
  *   - What a call writes (a parameter without const) must overlap no other argument of the call. What is only read may overlap.
- *     To merge a table with itself, lend a copy.
+ *     To merge a table with itself, lend a copy; a table may be compared with itself.
  *   - Nothing else writes the memory during the call. Calls that share no written memory may run at the same time.
  *   - The stack below (HERD_STACK).
  *
  * What all calls answer
  *   - The number of the first check that fails, in number order (enum herd_answer), or HERD_DONE.
- *   - A refused call changes no word, no mark and no place; changed, label, shown, given and first become 0.
+ *   - A refused call changes no word, no mark and no place; changed, verdict, label, shown, given and first become 0.
  */
 #ifndef HERD_H
 #define HERD_H
@@ -43,11 +44,11 @@ extern "C" {
 #endif
 
 /*
- * The version of this header, as one number: 2.1.0 is 20100. A change of a parameter list, of a layout figure or of what a call answers
+ * The version of this header, as one number: 2.2.0 is 20200. A change of a parameter list, of a layout figure or of what a call answers
  * raises the major part, an addition the minor part, anything else the patch. CHANGELOG.md tells what changed.
  */
 #define HERD_VERSION_MAJOR 2
-#define HERD_VERSION_MINOR 1
+#define HERD_VERSION_MINOR 2
 #define HERD_VERSION_PATCH 0
 #define HERD_VERSION (HERD_VERSION_MAJOR * 10000 + HERD_VERSION_MINOR * 100 + HERD_VERSION_PATCH)
 
@@ -68,8 +69,8 @@ enum herd_answer {
     HERD_DONE = 0,
     HERD_LENGTH_OR_INDEX = 1,       /* wrong length of a slice other than an insertion's values; index 0, above used or above N */
     HERD_SCHEMA_BROKEN = 2,         /* schema broken */
-    HERD_OWN_NOT_WELL_FORMED = 3,   /* own table not well-formed */
-    HERD_OTHER_NOT_WELL_FORMED = 4, /* other table not well-formed */
+    HERD_OWN_NOT_WELL_FORMED = 3,   /* own table not well-formed; in a comparison the first table */
+    HERD_OTHER_NOT_WELL_FORMED = 4, /* other table not well-formed; in a comparison the second table */
     HERD_RELATION_OR_REPLICA = 5,   /* relation not 1 to R, or replica not 1 to 255 at start */
     HERD_NOT_SHOWN = 6,             /* record to edit is not shown */
     HERD_FIELD_OR_VALUE = 7,        /* field not 1 to F, wrong value count, reference neither 0 nor a label */
@@ -79,6 +80,14 @@ enum herd_answer {
     HERD_FULL = 11,                 /* merge needs more than N distinct records; insertion with used = N */
     HERD_CLOCK_AT_END = 12,         /* insertion or update with clock 2^40 - 1 */
     HERD_FLAG_AT_END = 13           /* a flag to be redone is 65,535 */
+};
+
+/* What a comparison says of two tables, and what is to be merged so that both have the same contents. */
+enum herd_verdict {
+    HERD_ALIKE = 1,         /* alike: nothing */
+    HERD_FIRST_BEHIND = 2,  /* the first is behind: it takes in the second */
+    HERD_SECOND_BEHIND = 3, /* the second is behind: it takes in the first */
+    HERD_NEITHER = 4        /* neither contains the other: each takes in the other */
 };
 
 /*
@@ -205,6 +214,7 @@ typedef uint64_t herd_delta[HERD_DELTA_WORDS];
 #define HERD_STACK_TABLE_CHECK 192
 #define HERD_STACK_START 128
 #define HERD_STACK_MERGE 384
+#define HERD_STACK_COMPARE 320
 #define HERD_STACK_INSERT 119232
 #define HERD_STACK_UPDATE 119296
 #define HERD_STACK_DELETE 119168
@@ -254,6 +264,17 @@ HERD_CALL uint64_t herd_start(uint64_t *table, size_t table_words, uint64_t repl
  */
 HERD_CALL uint64_t herd_merge(const uint64_t *schema, size_t schema_words, uint64_t *own, size_t own_words, const uint64_t *other,
                               size_t other_words, uint64_t *changed);
+
+/*
+ * Compares two tables: which one is behind, and so must take in the other. The first is behind if the merge of both has exactly the
+ * second's clock, records, registers and flags, and the first has not; the second likewise. Replica numbers, the indices of records and
+ * N play no part, and the merge of both need not have room in either.
+ * Needs: two tables under one schema; a delta is one too. They may have different N, and may overlap.
+ * Answers: 0, 1, 2, 3, 4. Here 3 is about the first table, and 4 about the second.
+ * Changes: *verdict, one of enum herd_verdict; 0 in a refusal.
+ */
+HERD_CALL uint64_t herd_compare(const uint64_t *schema, size_t schema_words, const uint64_t *first, size_t first_words,
+                                const uint64_t *second, size_t second_words, uint64_t *verdict);
 
 /*
  * Inserts a record, at index used + 1. Its label is the clock + 1 with the own replica number; the clock rises by 1.
@@ -350,6 +371,23 @@ static inline const char *herd_answer_text(uint64_t answer)
         return "a flag to be redone is 65,535";
     default:
         return "no answer of this version";
+    }
+}
+
+/* What a verdict means, for a log. */
+static inline const char *herd_verdict_text(uint64_t verdict)
+{
+    switch (verdict) {
+    case HERD_ALIKE:
+        return "the tables are alike";
+    case HERD_FIRST_BEHIND:
+        return "the first table is behind and must take in the second";
+    case HERD_SECOND_BEHIND:
+        return "the second table is behind and must take in the first";
+    case HERD_NEITHER:
+        return "neither table contains the other, and each must take in the other";
+    default:
+        return "no verdict of this version";
     }
 }
 

@@ -80,7 +80,7 @@ enum herdbook_treatment_field {
     HERDBOOK_TREATMENT_LAST = 3   /* the last minute in which her milk is withheld */
 };
 
-/* The schema, for herd_merge, herd_marks, herd_walk and herd_table_check. */
+/* The schema, for herd_merge, herd_compare, herd_marks, herd_walk and herd_table_check. */
 static const herd_schema HERDBOOK_SCHEMA = {
     6,
     HERD_RELATION(HERD_FIELD(HERDBOOK_GROUP_NUMBER), 0, HERD_PLAIN),

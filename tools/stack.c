@@ -36,7 +36,7 @@ static uint64_t own[WORDS], other[WORDS];
 static herd_delta delta;
 static uint8_t marks[N];
 static uint64_t relation, values[HERD_FIELDS], value_count, record, field, value, place;
-static uint64_t changed, label, shown, given, first;
+static uint64_t changed, verdict, label, shown, given, first;
 static volatile uint64_t answer;
 
 static void put(uint64_t *table, size_t index, uint64_t of, uint64_t counter, uint64_t flag, const uint64_t *from, size_t fields)
@@ -190,6 +190,11 @@ static void call_merge(void)
     answer = herd_merge(schema, HERD_SCHEMA_WORDS, own, WORDS, other, WORDS, &changed);
 }
 
+static void call_compare(void)
+{
+    answer = herd_compare(schema, HERD_SCHEMA_WORDS, own, WORDS, other, WORDS, &verdict);
+}
+
 static void call_insert(void)
 {
     answer = herd_insert(schema, HERD_SCHEMA_WORDS, own, WORDS, delta, HERD_DELTA_WORDS, relation, values, value_count, &label);
@@ -284,6 +289,7 @@ static struct measured calls[] = {
     {"herd_table_check", call_table_check, HERD_STACK_TABLE_CHECK, 0},
     {"herd_start", call_start, HERD_STACK_START, 0},
     {"herd_merge", call_merge, HERD_STACK_MERGE, 0},
+    {"herd_compare", call_compare, HERD_STACK_COMPARE, 0},
     {"herd_insert", call_insert, HERD_STACK_INSERT, 0},
     {"herd_update", call_update, HERD_STACK_UPDATE, 0},
     {"herd_delete", call_delete, HERD_STACK_DELETE, 0},
@@ -365,6 +371,34 @@ static void measure_merges(void)
     measure(call_merge, HERD_FULL);
     other[HERD_RECORD(N) + HERD_NEXT_WORD] = 1;
     measure(call_merge, HERD_OTHER_NOT_WELL_FORMED);
+}
+
+/* Compares the own and the other table, which must give this verdict. */
+static void measure_verdict(uint64_t expected)
+{
+    measure(call_compare, HERD_DONE);
+    if (verdict != expected) {
+        fprintf(stderr, "stack: herd_compare gave verdict %d, and %d is expected\n", (int)verdict, (int)expected);
+        exit(2);
+    }
+}
+
+static void measure_compares(void)
+{
+    fill(own, N, 0, 1);
+    fill(other, N, 0, 2);
+    measure_verdict(HERD_ALIKE);
+    /* The last record that is compared differs. */
+    other[HERD_RECORD(LAST_PEN) + HERD_FLAG_WORD]++;
+    measure_verdict(HERD_FIRST_BEHIND);
+    own[HERD_RECORD(LAST_PEN) + HERD_FLAG_WORD] += 2;
+    measure_verdict(HERD_SECOND_BEHIND);
+    fill(other, N, 7, 2);
+    measure_verdict(HERD_NEITHER);
+    other[HERD_RECORD(N) + HERD_NEXT_WORD] = 1;
+    measure(call_compare, HERD_OTHER_NOT_WELL_FORMED);
+    own[HERD_RECORD(N) + HERD_NEXT_WORD] = 1;
+    measure(call_compare, HERD_OWN_NOT_WELL_FORMED);
 }
 
 static void measure_edits(void)
@@ -497,6 +531,7 @@ int main(int count, char **arguments)
     finish_schema();
     measure_reads();
     measure_merges();
+    measure_compares();
     measure_edits();
     measure_book();
     for (at = 0; at < CALLS; at++) {

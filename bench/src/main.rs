@@ -7,9 +7,9 @@ mod tables;
 
 use herd::layout::{
     record_word, CLOCK_WORD, DELTA_WORDS, FIELDS, HEAD_WORDS, LABEL_WORD, MOST_KEY_FIELDS,
-    MOST_RECORDS, RELATION_WORD, USED_WORD,
+    MOST_RECORDS, RELATION_WORD, REPLICA_WORD, USED_WORD,
 };
-use herd::{book, raw, Label};
+use herd::{book, raw, Compared, Label};
 use second::random::Random;
 use std::hint::black_box;
 use std::time::Instant;
@@ -45,6 +45,21 @@ fn timed<T>(times: usize, mut before: impl FnMut() -> T, mut call: impl FnMut(&m
         black_box(&mut input);
         least = least.min(spent);
         sum += spent;
+    }
+    least
+}
+
+/// Two calls in turn, the least of several timings of each: a stretch in which the machine is slower meets both.
+fn in_turn<T>(
+    times: usize,
+    mut before: impl FnMut() -> T,
+    mut one: impl FnMut(&mut T),
+    mut other: impl FnMut(&mut T),
+) -> (f64, f64) {
+    let mut least = (f64::MAX, f64::MAX);
+    for _ in 0..times {
+        least.0 = least.0.min(timed(1, &mut before, &mut one));
+        least.1 = least.1.min(timed(1, &mut before, &mut other));
     }
     least
 }
@@ -171,6 +186,41 @@ fn merges(subjects: &[Subject]) -> Line {
             copy(&[&x.own, &x.other]),
         )
     })
+}
+
+/// Two tables compared; the plain figure is the merge of the same two, timed in turn with the comparison.
+fn compares(
+    call: &'static str,
+    subjects: &[Subject],
+    tables: fn(&Subject) -> (Vec<u64>, Vec<u64>),
+    expected: Compared,
+) -> Line {
+    line(call, "merge", subjects, |x, size| {
+        let (first, other) = tables(x);
+        let own = || first.clone();
+        let mut verdict = 0;
+        assert_eq!(raw::compare(&x.schema, &first, &other, &mut verdict), 0);
+        assert_eq!(Compared::from_number(verdict), Some(expected));
+        let (library, merge) = in_turn(
+            5 * times(size),
+            own,
+            |t| assert_eq!(raw::compare(&x.schema, t, &other, &mut 0), 0),
+            |t| assert_eq!(raw::merge(&x.schema, t, &other, &mut 0), 0),
+        );
+        (library, timed(12, own, |t| assert!(second::compare(&x.schema, t, &other).is_ok())), merge)
+    })
+}
+
+/// A full table and a copy of it with another replica number: every record is compared, both ways.
+fn copies(x: &Subject) -> (Vec<u64>, Vec<u64>) {
+    let mut copy = x.full.clone();
+    copy[REPLICA_WORD] += 1;
+    (x.full.clone(), copy)
+}
+
+/// The two tables of a merge.
+fn shared(x: &Subject) -> (Vec<u64>, Vec<u64>) {
+    (x.own.clone(), x.other.clone())
 }
 
 fn marks(subjects: &[Subject]) -> Line {
@@ -570,6 +620,11 @@ fn main() {
     lines.extend([&barns, &keys, &buckets, &chains].map(|subjects| checks(subjects)));
     lines.push(starts(&barns));
     lines.extend([&barns, &keys, &buckets, &chains].map(|subjects| merges(subjects)));
+    lines.extend(
+        [&barns, &keys, &buckets, &chains]
+            .map(|subjects| compares("compare, alike", subjects, copies, Compared::Alike)),
+    );
+    lines.push(compares("compare, neither", &barns, shared, Compared::Neither));
     lines.extend([&barns, &keys, &buckets, &chains, &boths].map(|subjects| marks(subjects)));
     lines.extend([&barns, &keys, &buckets].map(|subjects| walks(subjects)));
     lines.push(values(&barns));

@@ -4,10 +4,11 @@
 use crate::{grouped, machine, multiple, time, Line};
 
 /// The panels: a title, and the calls that it shows.
-const PANELS: [(&str, &[&str]); 8] = [
+const PANELS: [(&str, &[&str]); 9] = [
     ("Table check, schema check", &["table check", "schema check"]),
     ("One step of the walk, start, values", &["walk, one step", "start", "values"]),
     ("Merge", &["merge"]),
+    ("Comparison", &["compare, alike", "compare, neither"]),
     ("Marks", &["marks"]),
     ("Insertion", &["insertion"]),
     ("Update, deletion", &["update", "deletion"]),

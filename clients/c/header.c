@@ -1,6 +1,6 @@
 /*
- * What include/herd.h has beside the calls, tested: the version, HERD_RELATION, the texts of the answers, words as bytes. Run by tools/clients.
- * With an argument it prints the texts of the answers alone, a line each, for the comparison with those of the Rust crate.
+ * What include/herd.h has beside the calls, tested: the version, HERD_RELATION, the texts of the answers and of the verdicts, words as bytes.
+ * Run by tools/clients. With an argument it prints these texts alone, a line each, for the comparison with those of the Rust crate.
  */
 #include <inttypes.h>
 #include <stdio.h>
@@ -56,6 +56,10 @@ static void texts(void)
         for (right = left + 1; right <= HERD_FLAG_AT_END + 1; right++)
             expect(strcmp(herd_answer_text(left), herd_answer_text(right)) != 0, "each answer has a text of its own");
     expect(strcmp(herd_answer_text(UINT64_MAX), herd_answer_text(HERD_FLAG_AT_END + 1)) == 0, "numbers that are no answers have one text");
+    for (left = HERD_ALIKE; left <= HERD_NEITHER; left++)
+        for (right = left + 1; right <= HERD_NEITHER + 1; right++)
+            expect(strcmp(herd_verdict_text(left), herd_verdict_text(right)) != 0, "each verdict has a text of its own");
+    expect(strcmp(herd_verdict_text(0), herd_verdict_text(HERD_NEITHER + 1)) == 0, "numbers that are no verdicts have one text");
 }
 
 static void bytes(void)
@@ -74,11 +78,13 @@ static void bytes(void)
 
 int main(int count, char **arguments)
 {
-    uint64_t answer;
+    uint64_t answer, verdict;
     (void)arguments;
     if (count > 1) {
         for (answer = 1; answer <= HERD_FLAG_AT_END; answer++)
             printf("%" PRIu64 " %s\n", answer, herd_answer_text(answer));
+        for (verdict = HERD_ALIKE; verdict <= HERD_NEITHER; verdict++)
+            printf("%" PRIu64 " %s\n", verdict, herd_verdict_text(verdict));
         return 0;
     }
     versions();

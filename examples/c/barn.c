@@ -1,5 +1,5 @@
 /*
- * A robot and the office, each with its own table: they edit while the link is down, merge both ways, and show the same list.
+ * A robot and the office, each with its own table: they edit while the link is down, compare, merge both ways, and show the same list.
  *
  *   cc -std=c99 -Iinclude examples/c/barn.c target/staticlib/libherd.a -o barn && ./barn
  */
@@ -56,6 +56,14 @@ static int brings_news(const char *name, uint64_t *own, const uint64_t *received
     int news = changed != 0;
     printf("%s: changed %" PRIu64 ", %s\n", name, changed, news ? "sent on" : "not sent on");
     return news;
+}
+
+/* Compares two copies, as a technician does at the barn door: which one must take in the other. */
+static void print_verdict(const uint64_t *robot, const uint64_t *office)
+{
+    uint64_t verdict;
+    must("compare", herd_compare(FARM, HERD_SCHEMA_WORDS, robot, WORDS, office, WORDS, &verdict));
+    printf("robot, office: %s\n", herd_verdict_text(verdict));
 }
 
 /* The index of the record with this label. */
@@ -167,8 +175,10 @@ int main(void)
     must("update", herd_update(FARM, HERD_SCHEMA_WORDS, office, WORDS, delta, HERD_DELTA_WORDS, find(office, GROUP, group), 1, 14));
 
     /* The link is back: merge both ways, until a merge brings no news. The older cow 41 keeps the tag. */
+    print_verdict(robot, office);
     while (brings_news("robot", robot, office) && brings_news("office", office, robot))
         continue;
+    print_verdict(robot, office);
     print_list("robot", robot);
     print_list("office", office);
     if (!agree(robot, office)) {
@@ -178,6 +188,7 @@ int main(void)
 
     /* The office deletes cow 40, and sends the delta alone. The cow's milking leaves the list with it. */
     must("delete", herd_delete(FARM, HERD_SCHEMA_WORDS, office, WORDS, delta, HERD_DELTA_WORDS, find(office, COW, cow)));
+    print_verdict(robot, office);
     merge(robot, delta, HERD_DELTA_WORDS);
     print_list("robot", robot);
     print_list("office", office);

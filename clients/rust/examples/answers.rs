@@ -1,9 +1,12 @@
-//! The refusals and their texts, a line each.
+//! The refusals and the verdicts of a comparison with their texts, a line each.
 
-use herd::Error;
+use herd::{Compared, Error};
 
 fn main() {
     for error in Error::ALL {
         println!("{} {error}", error.number());
+    }
+    for verdict in Compared::ALL {
+        println!("{} {verdict}", verdict.number());
     }
 }

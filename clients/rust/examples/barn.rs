@@ -1,5 +1,5 @@
-//! A robot and the office, each with its own table: they edit while the link is down, merge both
-//! ways, and show the same list.
+//! A robot and the office, each with its own table: they edit while the link is down, compare, merge
+//! both ways, and show the same list.
 
 use herd::{table_words, Delta, Error, Label, Marks, Schema, SchemaBuilder, Table};
 
@@ -60,6 +60,16 @@ fn brings_news(
     Ok(news)
 }
 
+/// Compares two copies, as a technician does at the barn door: which one must take in the other.
+fn print_verdict(
+    schema: &Schema,
+    robot: &Table<Words>,
+    office: &Table<Words>,
+) -> Result<(), Error> {
+    println!("robot, office: {}", robot.compare(schema, office)?);
+    Ok(())
+}
+
 fn main() -> Result<(), Error> {
     assert!(herd::version_fits(), "the linked library is of version {}", herd::version());
     let schema = FARM.build()?;
@@ -80,14 +90,17 @@ fn main() -> Result<(), Error> {
     office.update(&schema, &mut delta, index, 1, 14)?;
 
     // The link is back: merge both ways, until a merge brings no news. The older cow 41 keeps the tag.
+    print_verdict(&schema, &robot, &office)?;
     while brings_news("robot", &schema, &mut robot, &office)?
         && brings_news("office", &schema, &mut office, &robot)?
     {}
+    print_verdict(&schema, &robot, &office)?;
     let agree = print_list("robot", &schema, &robot)? == print_list("office", &schema, &office)?;
 
     // The office deletes cow 40, and sends the delta alone. The cow's milking leaves the list with it.
     let index = find(&schema, &office, COW, cow)?;
     office.delete(&schema, &mut delta, index)?;
+    print_verdict(&schema, &robot, &office)?;
     robot.merge(&schema, &delta)?;
     let again = print_list("robot", &schema, &robot)? == print_list("office", &schema, &office)?;
     println!("the lists {}", if agree && again { "agree" } else { "differ" });

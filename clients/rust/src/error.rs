@@ -20,9 +20,9 @@ pub enum Error {
     LengthOrIndex,
     /// The schema is broken.
     SchemaBroken,
-    /// The own table is not well-formed.
+    /// The own table, in a comparison the first, is not well-formed.
     OwnNotWellFormed,
-    /// The other table is not well-formed.
+    /// The other table, in a comparison the second, is not well-formed.
     OtherNotWellFormed,
     /// The relation is not 1 to R, or the replica is not 1 to 255 at start.
     RelationOrReplica,

@@ -9,6 +9,7 @@
 //! - [`SchemaBuilder`] makes a [`Schema`]: relations, fields, references, keys.
 //! - [`Table`] is started, edited and merged; each edit writes a [`Delta`], which is enough to bring
 //!   it to the other replicas; a merge tells how many records it changed.
+//! - [`Table::compare`] tells of two copies which one must take in the other, as [`Compared`].
 //! - [`Marks`] say which records are shown, and [`List`] reads them in order.
 //! - [`words_to_bytes`] and [`words_from_bytes`] are for files and messages.
 //! - [`version_fits`] tells whether the linked library fits this crate; ask it at start-up.
@@ -71,6 +72,7 @@
 
 pub mod book;
 mod bytes;
+mod compared;
 mod error;
 mod label;
 pub mod layout;
@@ -82,6 +84,7 @@ mod table;
 mod version;
 
 pub use bytes::{words_from_bytes, words_to_bytes, WORD_BYTES};
+pub use compared::Compared;
 pub use error::Error;
 pub use label::Label;
 pub use layout::{

@@ -28,6 +28,15 @@ mod c {
             other_words: usize,
             changed: *mut u64,
         ) -> u64;
+        pub fn herd_compare(
+            schema: *const u64,
+            schema_words: usize,
+            first: *const u64,
+            first_words: usize,
+            second: *const u64,
+            second_words: usize,
+            verdict: *mut u64,
+        ) -> u64;
         pub fn herd_insert(
             schema: *const u64,
             schema_words: usize,
@@ -127,6 +136,25 @@ pub fn merge(schema: &[u64], own: &mut [u64], other: &[u64], changed: &mut u64) 
             other.as_ptr(),
             other.len(),
             changed,
+        )
+    }
+}
+
+/// Compares two tables: 0, 1, 2, 3 for the first or 4 for the second. `verdict` becomes 1 if they are
+/// alike, 2 if the first is behind, 3 if the second is behind, 4 if neither contains the other, 0 in a
+/// refusal.
+pub fn compare(schema: &[u64], first: &[u64], second: &[u64], verdict: &mut u64) -> u64 {
+    // SAFETY: each pointer and length are those of a borrowed slice, which the call only reads;
+    // `verdict` is borrowed for writing, so that it overlaps nothing else.
+    unsafe {
+        c::herd_compare(
+            schema.as_ptr(),
+            schema.len(),
+            first.as_ptr(),
+            first.len(),
+            second.as_ptr(),
+            second.len(),
+            verdict,
         )
     }
 }

@@ -3,7 +3,7 @@ use crate::layout::{
     CLOCK_WORD, DELTA_WORDS, FIELDS, HEADER_WORDS, RECORD_WORDS, REPLICA_WORD, USED_WORD,
 };
 use crate::list::List;
-use crate::{raw, Error, Label, Marks, Schema};
+use crate::{raw, Compared, Error, Label, Marks, Schema};
 
 /// What an edit changed: a small table, to be merged into the tables of others.
 ///
@@ -167,6 +167,51 @@ impl<W: AsRef<[u64]>> Table<W> {
         place: usize,
     ) -> Result<List<'a>, Error> {
         List::new(schema.words(), self.words(), marks.bytes(), place)
+    }
+
+    /// Compares this table, the first, with another table or a delta, the second: which one is
+    /// behind, and so must take in the other. The second one may be words as received: what is no
+    /// table is refused. Both stay as they are.
+    ///
+    /// The contents are compared: clock, records, registers and flags. Replica numbers, the indices
+    /// of records and the capacities play no part, and the merge of both need not have room in
+    /// either.
+    ///
+    /// Refusals: [`Error::LengthOrIndex`], [`Error::OwnNotWellFormed`] of this table,
+    /// [`Error::OtherNotWellFormed`] of the second.
+    ///
+    /// ```
+    /// use herd::{table_words, Compared, Delta, Error, SchemaBuilder, Table};
+    ///
+    /// let schema = SchemaBuilder::new().relation().plain().build()?;
+    /// let mut delta = Delta::new();
+    /// let mut robot = Table::start([0; table_words(4)], 1)?;
+    /// let mut office = Table::start([0; table_words(8)], 2)?;
+    /// assert_eq!(robot.compare(&schema, &office)?, Compared::Alike);
+    ///
+    /// // The office inserts a record, and then so does the robot.
+    /// office.insert(&schema, &mut delta, 1, &[12])?;
+    /// assert_eq!(robot.compare(&schema, &office)?, Compared::FirstBehind);
+    /// robot.insert(&schema, &mut delta, 1, &[13])?;
+    /// assert_eq!(robot.compare(&schema, &office)?, Compared::Neither);
+    ///
+    /// // Each takes in the other.
+    /// robot.merge(&schema, &office)?;
+    /// assert_eq!(robot.compare(&schema, &office)?, Compared::SecondBehind);
+    /// office.merge(&schema, &robot)?;
+    /// assert_eq!(robot.compare(&schema, &office)?, Compared::Alike);
+    /// # Ok::<(), Error>(())
+    /// ```
+    pub fn compare<S: AsRef<[u64]>, O: AsRef<[u64]> + ?Sized>(
+        &self,
+        schema: &Schema<S>,
+        other: &O,
+    ) -> Result<Compared, Error> {
+        let mut verdict = 0;
+        told(raw::compare(schema.words(), self.words(), other.as_ref(), &mut verdict))?;
+        // An accepted call gives 1 to 4. With another number both merges are asked for, and nothing
+        // is lost.
+        Ok(Compared::from_number(verdict).unwrap_or(Compared::Neither))
     }
 
     fn word(&self, at: usize) -> u64 {

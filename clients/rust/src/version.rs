@@ -1,6 +1,6 @@
 use crate::raw;
 
-/// The version of this crate as one number: 2.1.0 is 20100.
+/// The version of this crate as one number: 2.2.0 is 20200.
 ///
 /// A change of a parameter list, of a layout figure or of what a call answers raises the major part,
 /// an addition the minor part, anything else the patch.

@@ -2,12 +2,12 @@
 //! the types against the second implementation.
 
 use herd::layout::{
-    record_word, CLOCK_WORD, FIRST_WORDS, HEADER_WORDS, HEAD_WORDS, LABEL_WORD, RELATION_WORD,
-    USED_WORD,
+    record_word, CLOCK_WORD, FIRST_WORDS, FLAG_WORD, HEADER_WORDS, HEAD_WORDS, LABEL_WORD,
+    RELATION_WORD, REPLICA_WORD, USED_WORD,
 };
 use herd::{
-    raw, table_words, words_from_bytes, words_to_bytes, Delta, Error, Kind, Label, Marks, Schema,
-    SchemaBuilder, Table, DELTA_WORDS, FIELDS, MOST_RECORDS, MOST_RELATIONS, SCHEMA_WORDS,
+    raw, table_words, words_from_bytes, words_to_bytes, Compared, Delta, Error, Kind, Label, Marks,
+    Schema, SchemaBuilder, Table, DELTA_WORDS, FIELDS, MOST_RECORDS, MOST_RELATIONS, SCHEMA_WORDS,
     WORD_BYTES,
 };
 use second::cases;
@@ -208,6 +208,167 @@ fn a_merge_tells_how_many_records_it_changed() {
     assert_eq!(changed, 0);
 }
 
+/// The verdict on two tables; it is the same of the tables exchanged, with first and second
+/// exchanged. Each table is alike with itself.
+#[track_caller]
+fn compared(first: &[u64], second: &[u64]) -> Compared {
+    let schema = farm();
+    let open = |words| Table::open(&schema, words).unwrap();
+    let (first, second) = (open(first), open(second));
+    let verdict = first.compare(&schema, &second).unwrap();
+    let exchanged = match verdict {
+        Compared::FirstBehind => Compared::SecondBehind,
+        Compared::SecondBehind => Compared::FirstBehind,
+        same => same,
+    };
+    assert_eq!(second.compare(&schema, &first), Ok(exchanged));
+    assert_eq!(first.compare(&schema, &first), Ok(Compared::Alike));
+    verdict
+}
+
+/// A table of a group and a cow, of replica 1, with room for this many records.
+fn group_and_cow(capacity: usize) -> Table<Vec<u64>> {
+    let (schema, mut delta) = (farm(), Delta::new());
+    let mut table = Table::start(vec![0; table_words(capacity)], 1).unwrap();
+    let group = table.insert(&schema, &mut delta, GROUP, &[12]).unwrap();
+    table.insert(&schema, &mut delta, COW, &[40, group.word()]).unwrap();
+    table
+}
+
+#[test]
+fn a_comparison_tells_which_table_must_take_in_the_other() {
+    let (schema, mut delta) = (farm(), Delta::new());
+    let mut robot = group_and_cow(6);
+    let mut office = Table::start(vec![0; table_words(6)], 2).unwrap();
+    // A table without records is behind; a delta that was taken in is behind or alike.
+    assert_eq!(compared(office.words(), robot.words()), Compared::FirstBehind);
+    office.merge(&schema, &robot).unwrap();
+    assert_eq!(compared(robot.words(), office.words()), Compared::Alike);
+    office.update(&schema, &mut delta, 1, 1, 13).unwrap();
+    assert_eq!(office.compare(&schema, &delta), Ok(Compared::SecondBehind));
+    assert_eq!(robot.compare(&schema, &delta), Ok(Compared::Neither));
+    // Each has what the other lacks, until each has taken in the other.
+    assert_eq!(compared(robot.words(), office.words()), Compared::FirstBehind);
+    robot.delete(&schema, &mut delta, 2).unwrap();
+    assert_eq!(compared(robot.words(), office.words()), Compared::Neither);
+    robot.merge(&schema, &office).unwrap();
+    assert_eq!(compared(robot.words(), office.words()), Compared::SecondBehind);
+    office.merge(&schema, &robot).unwrap();
+    assert_eq!(compared(robot.words(), office.words()), Compared::Alike);
+}
+
+#[test]
+fn every_part_of_the_contents_is_compared() {
+    let table = group_and_cow(2).into_words();
+    let raised = |word: usize, by: u64| {
+        let mut other = table.clone();
+        other[word] += by;
+        other
+    };
+    // The clock alone, a flag, a value under its stamp, a stamp.
+    let (flag, value) = (record_word(2) + FLAG_WORD, record_word(2) + HEAD_WORDS);
+    let stamp = value + FIELDS;
+    for word in [CLOCK_WORD, flag, value, stamp] {
+        assert_eq!(compared(&table, &raised(word, 1)), Compared::FirstBehind, "{word}");
+    }
+    // One on each side; of two values that with the later stamp is kept.
+    for (first, second) in [(CLOCK_WORD, flag), (CLOCK_WORD, value), (flag, value), (flag, stamp)] {
+        assert_eq!(compared(&raised(first, 1), &raised(second, 1)), Compared::Neither);
+    }
+    assert_eq!(compared(&raised(value, 9), &raised(stamp, 1)), Compared::FirstBehind);
+    // A record with flag 0 and no stamps; its label differs from another's by the replica.
+    let bare = |replica| {
+        let mut bare = Table::start(vec![0; table_words(1)], 3).unwrap().into_words();
+        (bare[CLOCK_WORD], bare[USED_WORD], bare[FIRST_WORDS]) = (1, 1, 1);
+        bare[record_word(1) + RELATION_WORD] = GROUP as u64;
+        bare[record_word(1) + LABEL_WORD] = Label::of(1, replica).unwrap().word();
+        bare
+    };
+    assert_eq!(compared(&table, &bare(1)), Compared::SecondBehind);
+    assert_eq!(compared(&table, &bare(2)), Compared::Neither);
+}
+
+#[test]
+fn replicas_positions_and_capacities_are_not_compared() {
+    let schema = farm();
+    let table = group_and_cow(2);
+    // Every other replica number.
+    let mut other = table.clone().into_words();
+    for replica in 2..=255 {
+        other[REPLICA_WORD] = replica;
+        assert_eq!(compared(table.words(), &other), Compared::Alike);
+    }
+    // Records in another order, and room for more.
+    let mut cow = Table::start(vec![0; table_words(7)], 2).unwrap();
+    cow.insert(&schema, &mut Delta::new(), COW, &[41, 0]).unwrap();
+    let mut group = Table::start(vec![0; table_words(5)], 3).unwrap();
+    group.insert(&schema, &mut Delta::new(), GROUP, &[14]).unwrap();
+    let (first, second) = (cow.clone(), group.clone());
+    cow.merge(&schema, &second).unwrap();
+    group.merge(&schema, &first).unwrap();
+    let records = HEADER_WORDS..table_words(2);
+    assert_ne!(cow.words()[records.clone()], group.words()[records]);
+    assert_eq!(compared(cow.words(), group.words()), Compared::Alike);
+    // A part of a table that has all its records is a table too, and both are lent at once.
+    let words = cow.words();
+    assert_eq!(compared(words, &words[..table_words(2)]), Compared::Alike);
+}
+
+#[test]
+fn full_tables_are_compared() {
+    let schema = farm();
+    let mut table = group_and_cow(2);
+    let mut other = Table::start(vec![0; table_words(1)], 2).unwrap();
+    other.insert(&schema, &mut Delta::new(), COW, &[41, 0]).unwrap();
+    assert_eq!(table.merge(&schema, &other), Err(Error::Full));
+    assert_eq!(compared(table.words(), other.words()), Compared::Neither);
+    let empty = Table::start(vec![0; table_words(0)], 3).unwrap();
+    assert_eq!(compared(empty.words(), table.words()), Compared::FirstBehind);
+    assert_eq!(compared(empty.words(), empty.words()), Compared::Alike);
+}
+
+#[test]
+fn a_comparison_refuses_lengths_then_the_schema_then_each_table() {
+    let schema = farm();
+    let table = case(5);
+    assert_eq!(table.compare(&schema, &[0; 3]), Err(Error::LengthOrIndex));
+    assert_eq!(table.compare(&schema, &Delta::new()), Err(Error::OtherNotWellFormed));
+    let other = SchemaBuilder::new().relation().plain().build().unwrap();
+    assert_eq!(table.compare(&other, &table), Err(Error::OwnNotWellFormed));
+    let empty = Table::start([0; table_words(0)], 1).unwrap();
+    assert_eq!(empty.compare(&other, &table), Err(Error::OtherNotWellFormed));
+    // All are damaged at first; the numbers rise as one after the other is mended.
+    let (good, damaged) = (table.words(), [0; table_words(2)]);
+    let broken = [0; SCHEMA_WORDS];
+    let told = |schema: &[u64], first: &[u64], second: &[u64]| {
+        let mut verdict = 7;
+        (raw::compare(schema, first, second, &mut verdict), verdict)
+    };
+    assert_eq!(told(&broken[1..], &damaged, &damaged), (1, 0));
+    assert_eq!(told(&broken, &damaged[1..], &damaged), (1, 0));
+    assert_eq!(told(&broken, &damaged, &damaged[1..]), (1, 0));
+    assert_eq!(told(&broken, &[], &damaged), (1, 0));
+    assert_eq!(told(&broken, &damaged, &damaged), (2, 0));
+    assert_eq!(told(schema.words(), &damaged, &damaged), (3, 0));
+    assert_eq!(told(schema.words(), good, &damaged), (4, 0));
+    assert_eq!(told(schema.words(), good, good), (0, 1));
+}
+
+#[test]
+fn every_verdict_has_its_number_and_its_text() {
+    for (number, verdict) in (1..).zip(Compared::ALL) {
+        assert_eq!(verdict.number(), number);
+        assert_eq!(Compared::from_number(number), Some(*verdict));
+    }
+    for number in [0, Compared::ALL.len() as u64 + 1, u64::MAX] {
+        assert_eq!(Compared::from_number(number), None);
+    }
+    let mut texts: Vec<String> = Compared::ALL.iter().map(Compared::to_string).collect();
+    texts.sort();
+    texts.dedup();
+    assert_eq!(texts.len(), Compared::ALL.len());
+}
+
 #[test]
 fn a_list_of_other_marks_or_another_schema_is_refused() {
     let (schema, table) = (farm(), case(5));
@@ -331,18 +492,26 @@ fn fleets_through_the_types() {
             edit(&mut random, &schema, &mut robot, &mut delta);
             edit(&mut random, &schema, &mut office, &mut delta);
         }
-        let mut words = robot.words().to_vec();
+        let before = robot.words().to_vec();
+        let verdict = robot.compare(&schema, &office).unwrap();
+        let expected = second::compare(schema.words(), robot.words(), office.words());
+        assert_eq!(verdict.number(), second::compare::told(&expected));
+        let mut words = before.clone();
         let expected = second::merge(schema.words(), &mut words, office.words());
         let told = robot.merge(&schema, &office);
         assert_eq!(told.map_or_else(Error::number, |_| 0), second::number(&expected));
         assert_eq!(told.ok(), expected.ok());
         assert_eq!(robot.words(), words);
+        // The robot lacks something exactly if a merge has no room for it or changes a word.
+        let lacks = matches!(verdict, Compared::FirstBehind | Compared::Neither);
+        assert_eq!(lacks, told.is_err() || words != before);
         let merged = told.is_ok() && office.merge(&schema, &robot).is_ok();
         for table in [&robot, &office] {
             let input = [cases::bytes_of(schema.words()), cases::bytes_of(table.words())].concat();
             assert_eq!(listed(&schema, table), second::list::list(&input));
         }
         if merged {
+            assert_eq!(robot.compare(&schema, &office), Ok(Compared::Alike));
             assert_eq!(listed(&schema, &robot), listed(&schema, &office));
         }
     }

@@ -118,6 +118,7 @@ impl Damage {
                 driver.values(&self.table, random.pick(&[0, 1, 2, 7, usize::MAX]));
             }
             2 | 3 => {
+                driver.compare(schema, &table, &self.other);
                 driver.merge(schema, &mut table, &self.other);
             }
             4 => {

@@ -2,7 +2,7 @@
 
 use crate::lent::{Lending, Lent};
 use herd::layout::{record_word, FLAG_WORD, HEAD_WORDS, USED_WORD};
-use herd::raw;
+use herd::{raw, Compared};
 use second::random::Random;
 use second::vectors::given;
 use second::{number, Answer};
@@ -17,6 +17,7 @@ pub const ANSWERS: Answers = &[
     ("table_check", &[0, 1, 2, 3]),
     ("start", &[0, 1, 5]),
     ("merge", &[0, 1, 2, 3, 4, 11]),
+    ("compare", &[0, 1, 2, 3, 4]),
     ("insert", &[0, 1, 2, 3, 5, 7, 8, 9, 11, 12, 13]),
     ("update", &[0, 1, 2, 3, 6, 7, 8, 9, 12, 13]),
     ("delete", &[0, 1, 2, 3, 6, 10, 13]),
@@ -32,6 +33,8 @@ pub struct Driver {
     pub counts: BTreeMap<(&'static str, u64), u64>,
     /// How often a merge that was done changed so many records.
     pub changed: BTreeMap<u64, u64>,
+    /// How often a comparison gave each verdict.
+    pub verdicts: BTreeMap<u64, u64>,
     /// How often a milking was found.
     pub found: u64,
 }
@@ -43,6 +46,7 @@ impl Driver {
             random: Random::new(seed),
             counts: BTreeMap::new(),
             changed: BTreeMap::new(),
+            verdicts: BTreeMap::new(),
             found: 0,
         }
     }
@@ -72,14 +76,16 @@ impl Driver {
             }
             text.push('\n');
         }
-        if self.changed.is_empty() {
-            return text;
+        for (name, counts) in [("changed", &self.changed), ("verdicts", &self.verdicts)] {
+            if counts.is_empty() {
+                continue;
+            }
+            text.push_str(&format!("{name:<16}"));
+            for (value, count) in counts {
+                text.push_str(&format!(" {value}:{count}"));
+            }
+            text.push('\n');
         }
-        text.push_str(&format!("{:<16}", "changed"));
-        for (changed, count) in &self.changed {
-            text.push_str(&format!(" {changed}:{count}"));
-        }
-        text.push('\n');
         text
     }
 
@@ -177,6 +183,47 @@ impl Driver {
             *self.changed.entry(changed).or_insert(0) += 1;
         }
         (self.count("merge", answer, number(&expected)), changed)
+    }
+
+    /// The answer and the verdict.
+    pub fn compare(
+        &mut self,
+        schema: &[u64],
+        first: &[u64],
+        second: &[u64],
+    ) -> (u64, Option<Compared>) {
+        let (lent_schema, lent, lent_second) =
+            (self.lend(schema), self.lend(first), self.lend(second));
+        let mut verdict = self.lend_word();
+        let answer = raw::compare(
+            lent_schema.part(),
+            lent.part(),
+            lent_second.part(),
+            &mut verdict.part_mut()[0],
+        );
+        let expected = second::compare(schema, first, second);
+        assert_eq!(lent_schema.back(), schema);
+        assert_eq!(lent.back(), first);
+        assert_eq!(lent_second.back(), second);
+        let verdict = verdict.back()[0];
+        assert_eq!(verdict, second::compare::told(&expected));
+        if answer == 0 {
+            assert_eq!(verdict, by_merges(schema, first, second).number());
+            *self.verdicts.entry(verdict).or_insert(0) += 1;
+        }
+        (self.count("compare", answer, number(&expected)), Compared::from_number(verdict))
+    }
+
+    /// A well-formed table compared with itself: it is lent once for both.
+    pub fn compare_itself(&mut self, schema: &[u64], table: &[u64]) {
+        let (lent_schema, lent, mut verdict) =
+            (self.lend(schema), self.lend(table), self.lend_word());
+        let answer =
+            raw::compare(lent_schema.part(), lent.part(), lent.part(), &mut verdict.part_mut()[0]);
+        assert_eq!(lent_schema.back(), schema);
+        assert_eq!(lent.back(), table);
+        assert_eq!(verdict.back(), [Compared::Alike.number()]);
+        self.count("compare", answer, 0);
     }
 
     /// The answer and the label.
@@ -314,6 +361,21 @@ impl Driver {
             assert_eq!(first as usize, record_word(index) + HEAD_WORDS);
         }
         (self.count("values", answer, expected.is_empty() as u64), first)
+    }
+}
+
+/// The verdict on two well-formed tables by merges: a table contains another if taking that in is
+/// accepted and changes no word of it.
+fn by_merges(schema: &[u64], first: &[u64], second: &[u64]) -> Compared {
+    let contains = |own: &[u64], other: &[u64]| {
+        let mut merged = own.to_vec();
+        raw::merge(schema, &mut merged, other, &mut 0) == 0 && merged == own
+    };
+    match (contains(first, second), contains(second, first)) {
+        (true, true) => Compared::Alike,
+        (false, true) => Compared::FirstBehind,
+        (true, false) => Compared::SecondBehind,
+        (false, false) => Compared::Neither,
     }
 }
 

@@ -3,6 +3,7 @@
 use crate::damage::Damage;
 use crate::driver::Driver;
 use herd::layout::{record_word, FLAG_WORD, RECORD_WORDS, USED_WORD};
+use herd::Compared;
 use second::cases::{herd, record, COW, GROUP};
 use second::label::{label_of, LARGEST_COUNTER, LARGEST_FLAG};
 use second::random::{self, Random, Shape};
@@ -135,12 +136,19 @@ impl Fleet {
             let copy = self.tables[at].clone();
             self.keep(random, copy);
         }
+        driver.compare(&self.schema, &self.tables[at], &other);
         let (answer, _) = driver.merge(&self.schema, &mut self.tables[at], &other);
+        // The other one then is alike or behind.
+        if answer == 0 {
+            let (_, verdict) = driver.compare(&self.schema, &other, &self.tables[at]);
+            assert!(matches!(verdict, Some(Compared::Alike | Compared::FirstBehind)));
+        }
         // With a copy of itself it changes nothing.
         if answer == 0 && random.chance(1, 4) {
             let copy = self.tables[at].clone();
             assert_eq!(driver.merge(&self.schema, &mut self.tables[at], &copy), (0, 0));
             assert_eq!(self.tables[at], copy);
+            driver.compare_itself(&self.schema, &copy);
         }
     }
 
@@ -198,6 +206,23 @@ pub fn fleet(driver: &mut Driver, seed: u64, steps: usize) {
     }
 }
 
+/// Large tables compared: an empty one, two of which neither has room for the other, two that are
+/// alike, and one that is behind by its last flag alone.
+fn compare_large(
+    driver: &mut Driver,
+    schema: &[u64],
+    [full, nearly, empty, copy]: [&[u64]; 4],
+    mut raised: Vec<u64>,
+) {
+    assert_eq!(driver.compare(schema, empty, full), (0, Some(Compared::FirstBehind)));
+    assert_eq!(driver.merge(schema, &mut nearly.to_vec(), full).0, 11);
+    assert_eq!(driver.compare(schema, nearly, full), (0, Some(Compared::Neither)));
+    assert_eq!(driver.compare(schema, copy, &raised), (0, Some(Compared::Alike)));
+    let last = raised[USED_WORD] as usize;
+    raised[record_word(last) + FLAG_WORD] += 1;
+    assert_eq!(driver.compare(schema, &raised, copy), (0, Some(Compared::SecondBehind)));
+}
+
 /// Tables of this capacity, filled and nearly filled: every call on them.
 pub fn large(driver: &mut Driver, seed: u64, capacity: usize) {
     let mut random = Random::new(seed);
@@ -219,6 +244,7 @@ pub fn large(driver: &mut Driver, seed: u64, capacity: usize) {
         (1..=capacity).for_each(|index| raised[record_word(index) + FLAG_WORD] += 1);
         assert_eq!(driver.merge(&schema, &mut copy, &full), (0, capacity as u64));
         assert_eq!(driver.merge(&schema, &mut copy, &raised), (0, capacity as u64));
+        compare_large(driver, &schema, [&full, &nearly, &empty, &copy], raised);
         let mut fleet = Fleet { schema, tables: vec![full, nearly, empty], others: Vec::new() };
         for at in 0..3 {
             driver.table_check(&fleet.schema, &fleet.tables[at]);

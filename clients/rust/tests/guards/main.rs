@@ -48,6 +48,10 @@ fn fleets_between_guards() {
         let count = driver.changed.get(&changed).copied().unwrap_or(0);
         assert!(count >= 10, "merges that changed {changed} records: {count}");
     }
+    for verdict in herd::Compared::ALL {
+        let count = driver.verdicts.get(&verdict.number()).copied().unwrap_or(0);
+        assert!(count >= 10, "comparisons that gave {verdict:?}: {count}");
+    }
 }
 
 #[test]
