@@ -99,6 +99,13 @@ pub struct JoinedFlag {
     pub changed: bool,
 }
 
+// The larger of two flags, on 16 bits.
+fn larger(a: u16, b: u16) -> u16
+    ensures { λ r. ⌜ r ≡ max a b ⌝ }
+{
+    if a < b { b } else { a }
+}
+
 // The larger of two flags; a number above the largest flag gives the largest flag.
 fn larger_flag(a: u64, b: u64) -> u64
     ensures flags { λ r. ⌜ (a ≤ largestFlag → b ≤ largestFlag → r ≡ max a b) ⌝ }
@@ -111,7 +118,7 @@ fn larger_flag(a: u64, b: u64) -> u64
     if LARGEST_FLAG < b {
         return LARGEST_FLAG;
     }
-    if a < b { b } else { a }
+    larger(a as u16, b as u16) as u64
 }
 
 // The join of flag `a`, which was there before, with flag `b`.
