@@ -6,8 +6,8 @@ mod picture;
 mod tables;
 
 use herd::layout::{
-    record_word, CLOCK_WORD, DELTA_WORDS, FIELDS, HEAD_WORDS, LABEL_WORD, MOST_KEY_FIELDS,
-    MOST_RECORDS, RELATION_WORD, REPLICA_WORD, USED_WORD,
+    record_word, CLOCK_WORD, DELTA_WORDS, FIELDS, FLAG_WORD, HEAD_WORDS, LABEL_WORD,
+    MOST_KEY_FIELDS, MOST_RECORDS, RELATION_WORD, REPLICA_WORD, USED_WORD,
 };
 use herd::{book, raw, Compared, Label};
 use second::random::Random;
@@ -173,17 +173,22 @@ fn starts(subjects: &[Subject]) -> Line {
     })
 }
 
-fn merges(subjects: &[Subject]) -> Line {
-    line("merge", "copy of both", subjects, |x, size| {
-        let own = || x.own.clone();
+fn merges(
+    call: &'static str,
+    subjects: &[Subject],
+    tables: fn(&Subject) -> (Vec<u64>, Vec<u64>),
+) -> Line {
+    line(call, "copy of both", subjects, |x, size| {
+        let (first, other) = tables(x);
+        let own = || first.clone();
         let mut changed = 0;
-        assert_eq!(raw::merge(&x.schema, &mut own(), &x.other, &mut changed), 0);
-        let expected = second::merge(&x.schema, &mut own(), &x.other).ok();
+        assert_eq!(raw::merge(&x.schema, &mut own(), &other, &mut changed), 0);
+        let expected = second::merge(&x.schema, &mut own(), &other).ok();
         assert_eq!(expected, Some(changed as usize));
         (
-            timed(times(size), own, |t| assert_eq!(raw::merge(&x.schema, t, &x.other, &mut 0), 0)),
-            timed(12, own, |t| assert!(second::merge(&x.schema, t, &x.other).is_ok())),
-            copy(&[&x.own, &x.other]),
+            timed(times(size), own, |t| assert_eq!(raw::merge(&x.schema, t, &other, &mut 0), 0)),
+            timed(12, own, |t| assert!(second::merge(&x.schema, t, &other).is_ok())),
+            copy(&[&first, &other]),
         )
     })
 }
@@ -216,6 +221,17 @@ fn copies(x: &Subject) -> (Vec<u64>, Vec<u64>) {
     let mut copy = x.full.clone();
     copy[REPLICA_WORD] += 1;
     (x.full.clone(), copy)
+}
+
+/// A full table and a copy of it with another replica number: of each record one of the two, chosen at random, has the higher flag.
+fn flags(x: &Subject) -> (Vec<u64>, Vec<u64>) {
+    let (mut first, mut other) = copies(x);
+    let mut random = Random::new(12);
+    for at in 1..=x.full[USED_WORD] as usize {
+        let raised = if random.chance(1, 2) { &mut first } else { &mut other };
+        raised[record_word(at) + FLAG_WORD] += 1;
+    }
+    (first, other)
 }
 
 /// The two tables of a merge.
@@ -619,7 +635,10 @@ fn main() {
     let mut lines = vec![schemas(&barns)];
     lines.extend([&barns, &keys, &buckets, &chains].map(|subjects| checks(subjects)));
     lines.push(starts(&barns));
-    lines.extend([&barns, &keys, &buckets, &chains].map(|subjects| merges(subjects)));
+    lines.extend(
+        [&barns, &keys, &buckets, &chains].map(|subjects| merges("merge", subjects, shared)),
+    );
+    lines.push(merges("merge, every flag", &barns, flags));
     lines.extend(
         [&barns, &keys, &buckets, &chains]
             .map(|subjects| compares("compare, alike", subjects, copies, Compared::Alike)),

@@ -7,7 +7,7 @@ use crate::{grouped, machine, multiple, time, Line};
 const PANELS: [(&str, &[&str]); 9] = [
     ("Table check, schema check", &["table check", "schema check"]),
     ("One step of the walk, start, values", &["walk, one step", "start", "values"]),
-    ("Merge", &["merge"]),
+    ("Merge", &["merge", "merge, every flag"]),
     ("Comparison", &["compare, alike", "compare, neither"]),
     ("Marks", &["marks"]),
     ("Insertion", &["insertion"]),
