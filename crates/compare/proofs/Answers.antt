@@ -2,22 +2,16 @@
 -- Assumes nothing.
 use Prim.Native.Nat.{ℕ}
 use mathlib.Core.Path.{_≡_, refl}
-use mathlib.Core.Bool.{Bool, true, false, _&&_}
+use mathlib.Core.Bool.{true, false, _&&_}
 use mathlib.Core.List.{List}
 use lib.Dec.{eqb}
-use Rattle.crdt.proofs.Tests.{and-left, and-right}
 use Rattle.model.specs.Lists.{lowest}
 use Rattle.model.specs.Schemas.{broken}
 use Rattle.model.specs.Tables.{contents}
 use Rattle.model.specs.WellFormed.{wellFormed}
 use Rattle.model.specs.Calls.{schemaLength, tableLength}
 use Rattle.model.specs.Compare.{compared, compareNumber, compareVerdict}
-use Rattle.merge_laws.specs.Absorb.{Whole}
-use Rattle.merge_laws.proofs.Wholes.{formed-whole}
 use Rattle.answers.specs.Told.{told}
-
-pub lengths-are : (s a b : List ℕ) (x y z : Bool) → x ≡ schemaLength s → y ≡ tableLength a → z ≡ tableLength b → (x && y && z) ≡ (schemaLength s && tableLength a && tableLength b)
-lengths-are s a b x y z e d f = rw (e, d, f)
 
 module _ (s a b : List ℕ) where
   -- a refusal tells the number and 0
@@ -29,28 +23,10 @@ module _ (s a b : List ℕ) where
   told-1 l = refused 1 (unfold compareNumber lowest in rw l) refl
 
   module _ (l : (schemaLength s && tableLength a && tableLength b) ≡ true) where
-    schema-long : schemaLength s ≡ true
-    schema-long = and-left (schemaLength s) (tableLength a) (and-left (schemaLength s && tableLength a) (tableLength b) l)
-
-    first-long : tableLength a ≡ true
-    first-long = and-right (schemaLength s) (tableLength a) (and-left (schemaLength s && tableLength a) (tableLength b) l)
-
-    second-long : tableLength b ≡ true
-    second-long = and-right (schemaLength s && tableLength a) (tableLength b) l
-
-    pub first-formed : broken s ≡ false → (schemaLength s ≡ true) × (tableLength a ≡ true) × (broken s ≡ false)
-    first-formed nb = (schema-long, first-long, nb)
-
-    pub second-formed : broken s ≡ false → (schemaLength s ≡ true) × (tableLength b ≡ true) × (broken s ≡ false)
-    second-formed nb = (schema-long, second-long, nb)
-
     pub told-2 : broken s ≡ true → told 2 0 ≡ told (compareNumber s a b) (compareVerdict s a b)
     told-2 nb = refused 2 (unfold compareNumber lowest in rw (l, nb)) refl
 
     module _ (nb : broken s ≡ false) where
-      pub both-whole : wellFormed s a ≡ true → wellFormed s b ≡ true → Whole a × Whole b
-      both-whole wa wb = (formed-whole s a nb first-long wa, formed-whole s b nb second-long wb)
-
       pub told-3 : wellFormed s a ≡ false → told 3 0 ≡ told (compareNumber s a b) (compareVerdict s a b)
       told-3 wa = refused 3 (unfold compareNumber lowest in rw (l, nb, wa)) refl
 

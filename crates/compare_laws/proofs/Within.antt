@@ -20,14 +20,14 @@ use Rattle.merge_laws.specs.Absorb.{recordsIn}
 use Rattle.compare_laws.specs.UpTo.{optUpTo, upToIn, recordsUpTo}
 use Rattle.compare_laws.proofs.Joined.{up-joins, joins-up}
 
-all-same : (p q : Rec → Bool) (l : List Rec) → ((x : Rec) → p x ≡ q x) → all-of p l ≡ all-of q l
+all-alike : (p q : Rec → Bool) (l : List Rec) → ((x : Rec) → p x ≡ q x) → all-of p l ≡ all-of q l
 unfolding all-of
-all-same p q [] h = refl
-all-same p q (x ∷ xs) h = ap₂ (λ (a b : Bool). a && b) (h x) (all-same p q xs h)
+all-alike p q [] h = refl
+all-alike p q (x ∷ xs) h = ap₂ (λ (a b : Bool). a && b) (h x) (all-alike p q xs h)
 
 up-order : (s : List Rec) (l : List Rec) → all-of (upToIn (inOrder s)) l ≡ all-of (upToIn s) l
 unfolding upToIn
-up-order s l = all-same (upToIn (inOrder s)) (upToIn s) l (λ (y : Rec). ap (λ (o : Option Cell). optUpTo o (y .cell)) (at-order (y .key) s))
+up-order s l = all-alike (upToIn (inOrder s)) (upToIn s) l (λ (y : Rec). ap (λ (o : Option Cell). optUpTo o (y .cell)) (at-order (y .key) s))
 
 module _ (b t : List ℕ) where
   up-same : clockAt b ≤ clockAt t → recordsUpTo (recordsIn t) (recordsIn b) ≡ true → sameContents (joinContents (contents b) (contents t)) (contents t) ≡ true

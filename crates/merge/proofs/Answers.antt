@@ -9,7 +9,6 @@ use native.Mathlib.Omega.{arith}
 use lib.Dec.{eqb, ltb}
 use lib.ListN.{length}
 use borrow.Author.Tests.{ltb-false, ne-eqb, not-false}
-use Rattle.crdt.proofs.Tests.{and-left, and-right}
 use Rattle.model.specs.Layout.{mostRecords, capacityOf, usedAt}
 use Rattle.model.specs.Lists.{lowest, all-of, check}
 use Rattle.model.specs.Schemas.{broken}
@@ -21,7 +20,7 @@ use Rattle.laws.proofs.Checks.{passed}
 use Rattle.convergence.proofs.Tables.{merge-left}
 use Rattle.merge_laws.specs.Absorb.{recordsIn, Whole, Mergeable}
 use Rattle.merge_laws.proofs.Chain.{merged-missing, missing-within}
-use Rattle.merge_laws.proofs.Wholes.{formed-whole, formed-mergeable}
+use Rattle.merge_laws.proofs.Wholes.{first-long, second-long, formed-mergeable}
 use Rattle.model.specs.Records.{Rec, place}
 use Rattle.answers.specs.Told.{Told, told}
 
@@ -36,33 +35,12 @@ pub full-is : (t b : List ℕ) (c u n : ℕ) → c ≡ capacityOf t → u ≡ us
 unfolding tooMany decode
 full-is t b c u n e d h = rw (e, d) (ap (ltb (capacityOf t)) h)
 
-pub lengths-are : (s t b : List ℕ) (x y z : Bool) → x ≡ schemaLength s → y ≡ tableLength t → z ≡ tableLength b → (x && y && z) ≡ (schemaLength s && tableLength t && tableLength b)
-lengths-are s t b x y z e d f = rw (e, d, f)
-
 -- each answer
 module _ (s t b : List ℕ) where
   abbrev lengths : Bool
   lengths = schemaLength s && tableLength t && tableLength b
 
   module _ (l : (schemaLength s && tableLength t && tableLength b) ≡ true) where
-    own-length : tableLength t ≡ true
-    own-length = and-right (schemaLength s) (tableLength t) (and-left (schemaLength s && tableLength t) (tableLength b) l)
-
-    other-length : tableLength b ≡ true
-    other-length = and-right (schemaLength s && tableLength t) (tableLength b) l
-
-    pub schema-long : schemaLength s ≡ true
-    schema-long = and-left (schemaLength s) (tableLength t) (and-left (schemaLength s && tableLength t) (tableLength b) l)
-
-    pub own-formed : broken s ≡ false → (schemaLength s ≡ true) × (tableLength t ≡ true) × (broken s ≡ false)
-    own-formed nb = (schema-long, own-length, nb)
-
-    pub other-formed : broken s ≡ false → (schemaLength s ≡ true) × (tableLength b ≡ true) × (broken s ≡ false)
-    other-formed nb = (schema-long, other-length, nb)
-
-    pub both-whole : broken s ≡ false → wellFormed s t ≡ true → wellFormed s b ≡ true → Whole t × Whole b
-    both-whole nb wt wb = (formed-whole s t nb own-length wt, formed-whole s b nb other-length wb)
-
     pub number-2 : broken s ≡ true → 2 ≡ mergeNumber s t b
     unfolding mergeNumber lowest
     number-2 nb = rw (l, nb)
@@ -96,7 +74,7 @@ module _ (s t b : List ℕ) where
       (check 1 (not (schemaLength s && tableLength t && tableLength b)) ∷ check 2 (broken s) ∷ check 3 (not (wellFormed s t)) ∷ check 4 (not (wellFormed s b)) ∷ check 11 (tooMany (decode t) (decode b)) ∷ [])
       refl (sym e) in
       let l = not-false _ (p .0) in
-      formed-mergeable s t b (p .1 .0) (own-length l) (not-false _ (p .1 .1 .0)) (other-length l) (not-false _ (p .1 .1 .1 .0)) (ltb-false _ _ (p .1 .1 .1 .1 .0))
+      formed-mergeable s t b (p .1 .0) (first-long s t b l) (not-false _ (p .1 .1 .0)) (second-long s t b l) (not-false _ (p .1 .1 .1 .0)) (ltb-false _ _ (p .1 .1 .1 .1 .0))
 
   pub done-words : (u : List ℕ) → 0 ≡ mergeNumber s t b → u ≡ encode (merged (decode t) (decode b)) → u ≡ mergeTable s t b
   unfolding mergeTable

@@ -2,10 +2,11 @@
 -- Assumes nothing.
 use Prim.Native.Nat.{ℕ, _≤_}
 use mathlib.Core.Path.{_≡_}
-use mathlib.Core.Bool.{true, false}
+use mathlib.Core.Bool.{Bool, true, false, _&&_}
 use mathlib.Core.List.{List}
 use native.Mathlib.Omega.{arith}
 use lib.ListN.{length}
+use Rattle.crdt.proofs.Tests.{and-left, and-right}
 use Rattle.model.specs.Layout.{fields, mostRelations}
 use Rattle.model.specs.Schemas.{Relation, broken, schemaOf}
 use Rattle.model.specs.Records.{label}
@@ -13,7 +14,7 @@ use Rattle.model.specs.Tables.{Table, decode, encode}
 use Rattle.model.specs.WellFormed.{wellFormed}
 use Rattle.model.specs.Valid.{valid}
 use Rattle.model.specs.Merge.{mergedRecords}
-use Rattle.model.specs.Calls.{tableLength}
+use Rattle.model.specs.Calls.{schemaLength, tableLength}
 use Rattle.wellformed.proofs.ValidParts.{valid-table, record-valid}
 use Rattle.wellformed.proofs.EncodedChains.{label-above}
 use Rattle.wellformed.proofs.Formed.{relations-within, schema-length}
@@ -46,6 +47,31 @@ formed-whole s t b l w =
       words = formed-encoded s t b l w;
       value = valid-sound (schemaOf s) (decode t) (omega (arith, schema-length s, relations-within s b)) (formed-valid s t b l w);
     }
+
+-- Two tables lent with a schema, all of the right lengths.
+pub lengths-are : (s a b : List ℕ) (x y z : Bool) → x ≡ schemaLength s → y ≡ tableLength a → z ≡ tableLength b → (x && y && z) ≡ (schemaLength s && tableLength a && tableLength b)
+lengths-are s a b x y z e d f = rw (e, d, f)
+
+module _ (s a b : List ℕ) (l : (schemaLength s && tableLength a && tableLength b) ≡ true) where
+  schema-long : schemaLength s ≡ true
+  schema-long = and-left (schemaLength s) (tableLength a) (and-left (schemaLength s && tableLength a) (tableLength b) l)
+
+  pub first-long : tableLength a ≡ true
+  first-long = and-right (schemaLength s) (tableLength a) (and-left (schemaLength s && tableLength a) (tableLength b) l)
+
+  pub second-long : tableLength b ≡ true
+  second-long = and-right (schemaLength s && tableLength a) (tableLength b) l
+
+  module _ (nb : broken s ≡ false) where
+    -- as `well_formed` asks
+    pub first-asked : (schemaLength s ≡ true) × (tableLength a ≡ true) × (broken s ≡ false)
+    first-asked = (schema-long, first-long, nb)
+
+    pub second-asked : (schemaLength s ≡ true) × (tableLength b ≡ true) × (broken s ≡ false)
+    second-asked = (schema-long, second-long, nb)
+
+    pub both-whole : wellFormed s a ≡ true → wellFormed s b ≡ true → Whole a × Whole b
+    both-whole wa wb = (formed-whole s a nb first-long wa, formed-whole s b nb second-long wb)
 
 -- What merging needs, of two well-formed tables.
 pub formed-mergeable : (s t b : List ℕ) → broken s ≡ false → tableLength t ≡ true → wellFormed s t ≡ true → tableLength b ≡ true → wellFormed s b ≡ true

@@ -4,7 +4,8 @@ use Prim.Native.Nat.{ℕ}
 use mathlib.Core.Path.{ap, sym, _∙_}
 use borrow.Author.Tests.{not-true, not-false}
 use Rattle.answers.specs.Told.{told}
-use Rattle.merge.proofs.Answers.{lengths-are, own-formed, other-formed, both-whole, number-1, number-2, number-3, number-4, number-11, number-0}
+use Rattle.merge_laws.proofs.Wholes.{lengths-are, first-asked, second-asked, both-whole}
+use Rattle.merge.proofs.Answers.{number-1, number-2, number-3, number-4, number-11, number-0}
 use borrow.Author.Needs.{needs}
 use Rattle.merge.proofs.judge.Statement.{statement}
 use Rattle.merge.proofs.judge.Tie as tie
@@ -28,13 +29,13 @@ returns-2 : tie.Need-returns-2
 returns-2 c = let l = sym (lengths-are _ _ _ _ _ _ (c .before .before .before .before .before .schema-length .ensures) (c .before .before .before .before .table-length .ensures) (c .before .before .before .table-length2 .ensures)) ∙ not-false _ (c .before .before .if1 .left) in ap (λ (n : ℕ). told n 0) (number-2 _ _ _ l (sym (c .before .is-broken .ensures) ∙ c .if2 .taken))
 
 well-formed-requires : tie.Need-well-formed-requires
-well-formed-requires c κs = let l = sym (lengths-are _ _ _ _ _ _ (c .before .before .before .before .before .schema-length .ensures) (c .before .before .before .before .table-length .ensures) (c .before .before .before .table-length2 .ensures)) ∙ not-false _ (c .before .before .if1 .left) in let nb = sym (c .before .is-broken .ensures) ∙ c .if2 .left in own-formed _ _ _ l nb
+well-formed-requires c κs = let l = sym (lengths-are _ _ _ _ _ _ (c .before .before .before .before .before .schema-length .ensures) (c .before .before .before .before .table-length .ensures) (c .before .before .before .table-length2 .ensures)) ∙ not-false _ (c .before .before .if1 .left) in let nb = sym (c .before .is-broken .ensures) ∙ c .if2 .left in first-asked _ _ _ l nb
 
 returns-3 : tie.Need-returns-3
 returns-3 c = let l = sym (lengths-are _ _ _ _ _ _ (c .before .before .before .before .before .before .before .schema-length .ensures) (c .before .before .before .before .before .before .table-length .ensures) (c .before .before .before .before .before .table-length2 .ensures)) ∙ not-false _ (c .before .before .before .before .if1 .left) in let nb = sym (c .before .before .before .is-broken .ensures) ∙ c .before .before .if2 .left in ap (λ (n : ℕ). told n 0) (number-3 _ _ _ l nb (sym (c .before .well-formed .ensures) ∙ not-true _ (c .if3 .taken)))
 
 well-formed-requires-2 : tie.Need-well-formed-requires-2
-well-formed-requires-2 c κs = let l = sym (lengths-are _ _ _ _ _ _ (c .before .before .before .before .before .before .before .schema-length .ensures) (c .before .before .before .before .before .before .table-length .ensures) (c .before .before .before .before .before .table-length2 .ensures)) ∙ not-false _ (c .before .before .before .before .if1 .left) in let nb = sym (c .before .before .before .is-broken .ensures) ∙ c .before .before .if2 .left in other-formed _ _ _ l nb
+well-formed-requires-2 c κs = let l = sym (lengths-are _ _ _ _ _ _ (c .before .before .before .before .before .before .before .schema-length .ensures) (c .before .before .before .before .before .before .table-length .ensures) (c .before .before .before .before .before .table-length2 .ensures)) ∙ not-false _ (c .before .before .before .before .if1 .left) in let nb = sym (c .before .before .before .is-broken .ensures) ∙ c .before .before .if2 .left in second-asked _ _ _ l nb
 
 returns-4 : tie.Need-returns-4
 returns-4 c = let l = sym (lengths-are _ _ _ _ _ _ (c .before .before .before .before .before .before .before .before .before .schema-length .ensures) (c .before .before .before .before .before .before .before .before .table-length .ensures) (c .before .before .before .before .before .before .before .table-length2 .ensures)) ∙ not-false _ (c .before .before .before .before .before .before .if1 .left) in let nb = sym (c .before .before .before .before .before .is-broken .ensures) ∙ c .before .before .before .before .if2 .left in let wt = sym (c .before .before .before .well-formed .ensures) ∙ not-false _ (c .before .before .if3 .left) in ap (λ (n : ℕ). told n 0) (number-4 _ _ _ l nb wt (sym (c .before .well-formed2 .ensures) ∙ not-true _ (c .if4 .taken)))
