@@ -11,8 +11,9 @@
  *   5. Of two copies, ask which one must take in the other (herd_compare).
  *
  * A record is complete when all its fields have arrived. The complete records that are not deleted stand, and so do the complete ones that
- * standing records reference by abort. Of standing records with the same key only the oldest is kept. The kept records whose references
- * all lead to shown records are shown. An empty reference (0) leads nowhere and is fine, but a key with one is no key.
+ * standing records reference by abort. From the oldest on, a standing record is kept unless it has a key of an older one that is kept: one
+ * that is not kept hides nobody, but its keys stay taken (HERD_CONFLICT). The kept records whose references all lead to shown records are
+ * shown. An empty reference (0) leads nowhere and is fine, but a key with one is no key.
  *
  * Link with libherd.a (rt staticlib herd, or tools/install and pkg-config). Its objects are for x86-64 Linux. Of the C library it needs
  * memset and the like, and nothing else. At start-up compare the library with this header (herd_version_fits).
@@ -44,11 +45,11 @@ extern "C" {
 #endif
 
 /*
- * The version of this header, as one number: 2.2.0 is 20200. A change of a parameter list, of a layout figure or of what a call answers
+ * The version of this header, as one number: 3.0.0 is 30000. A change of a parameter list, of a layout figure or of what a call answers
  * raises the major part, an addition the minor part, anything else the patch. CHANGELOG.md tells what changed.
  */
-#define HERD_VERSION_MAJOR 2
-#define HERD_VERSION_MINOR 2
+#define HERD_VERSION_MAJOR 3
+#define HERD_VERSION_MINOR 0
 #define HERD_VERSION_PATCH 0
 #define HERD_VERSION (HERD_VERSION_MAJOR * 10000 + HERD_VERSION_MINOR * 100 + HERD_VERSION_PATCH)
 
@@ -308,6 +309,8 @@ HERD_CALL uint64_t herd_delete(const uint64_t *schema, size_t schema_words, uint
 
 /*
  * Marks the shown records: byte i - 1 becomes 1 if record i is shown, and otherwise 0. Old contents are ignored.
+ * Cows with the keys ear tag and transponder, from the oldest on: of (40, 7), (40, 8), (41, 8) the first and the third are shown. Without
+ * the first, the second is shown and the third is not.
  * Answers: 0, 1, 2, 3.
  * Changes: marks; *shown, the count of shown records, 0 in a refusal.
  */

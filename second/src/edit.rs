@@ -4,7 +4,7 @@ use crate::label::{self, delete, label_of, redo, Register};
 use crate::layout::{self, DELTA_CAPACITY};
 use crate::rules::{holds, rule, Rule};
 use crate::schema::{Kind, Schema};
-use crate::shown::{key_values, references, shown, standing, values_of};
+use crate::shown::{key_values, references, steps, values_of, Steps};
 use crate::table::{self, Record, Table};
 use crate::{need, Answer, Refusal};
 
@@ -94,37 +94,36 @@ fn is_taken(
     })
 }
 
-/// Which records stand and which are shown, as a call found them.
-struct Found {
-    stands: Vec<bool>,
-    members: Vec<bool>,
-}
-
-impl Found {
-    fn of(schema: &Schema, table: &Table) -> Found {
-        Found { stands: standing(schema, table), members: shown(schema, table) }
-    }
-
+/// What the checks look at in the steps, as a call found them.
+impl Steps {
     /// 8: a new target is one of these.
-    fn shown(&self) -> &[bool] {
-        self.either(rule(Rule::TargetNotOnlyStanding))
+    fn targets(&self) -> &[bool] {
+        if rule(Rule::TargetNotOnlyStanding) {
+            &self.shown
+        } else {
+            &self.standing
+        }
     }
 
     /// 9: a conflict is with one of these.
     fn conflicting(&self) -> &[bool] {
-        self.either(!rule(Rule::ConflictWithStanding))
+        self.all_standing(Rule::ConflictWithStanding, Rule::ConflictWithLosers)
     }
 
     /// 10: a record is guarded by one of these.
     fn guarding(&self) -> &[bool] {
-        self.either(!rule(Rule::GuardedByStanding))
+        self.all_standing(Rule::GuardedByStanding, Rule::GuardedByLosers)
     }
 
-    fn either(&self, shown: bool) -> &[bool] {
-        if shown {
-            &self.members
+    /// All standing records, by these rules: not only shown ones, and not only those that step 3
+    /// kept.
+    fn all_standing(&self, not_only_shown: Rule, not_only_kept: Rule) -> &[bool] {
+        if !rule(not_only_shown) {
+            &self.shown
+        } else if !rule(not_only_kept) {
+            &self.kept
         } else {
-            &self.stands
+            &self.standing
         }
     }
 }
@@ -224,9 +223,9 @@ pub fn insertion(
     values.resize(of.kinds.len(), 0);
     let fields: Vec<(Kind, u64)> = of.kinds.iter().copied().zip(values.iter().copied()).collect();
     need(fields.iter().all(|(kind, value)| is_value(*kind, *value)), Refusal::FieldOrValue)?;
-    let found = Found::of(&schema, &table);
+    let found = steps(&schema, &table);
     let targets_shown =
-        fields.iter().all(|(kind, value)| target_is_shown(&table, found.shown(), *kind, *value));
+        fields.iter().all(|(kind, value)| target_is_shown(&table, found.targets(), *kind, *value));
     need(targets_shown, Refusal::TargetNotShown)?;
     let stands = found.conflicting();
     let taken =
@@ -306,8 +305,8 @@ pub fn update(
     let more = is_delta(delta) && table::is_index(own, index);
     let (schema, mut table) = table::read_checked(schema, own, more)?;
     let at = index as usize - 1;
-    let found = Found::of(&schema, &table);
-    need(holds(Rule::UpdateShown, found.members[at]), Refusal::NotShown)?;
+    let found = steps(&schema, &table);
+    need(holds(Rule::UpdateShown, found.shown[at]), Refusal::NotShown)?;
     let relation = table.records[at].relation;
     let of = schema.relation(relation).ok_or(Refusal::RelationOrReplica)?;
     let field_fits = 1 <= field && field <= of.kinds.len() as u64;
@@ -315,7 +314,7 @@ pub fn update(
     let column = if field_fits { field as usize - 1 } else { 0 };
     let kind = of.kinds[column];
     need(is_value(kind, value), Refusal::FieldOrValue)?;
-    need(target_is_shown(&table, found.shown(), kind, value), Refusal::TargetNotShown)?;
+    need(target_is_shown(&table, found.targets(), kind, value), Refusal::TargetNotShown)?;
     let stands = found.conflicting();
     let mut values = values_of(&table.records[at]);
     let old_value = values[column];
@@ -374,8 +373,8 @@ pub fn deletion(schema: &[u64], own: &mut [u64], delta: &mut [u64], index: u64) 
     let more = is_delta(delta) && table::is_index(own, index);
     let (schema, mut table) = table::read_checked(schema, own, more)?;
     let at = index as usize - 1;
-    let found = Found::of(&schema, &table);
-    need(holds(Rule::DeletionShown, found.members[at]), Refusal::NotShown)?;
+    let found = steps(&schema, &table);
+    need(holds(Rule::DeletionShown, found.shown[at]), Refusal::NotShown)?;
     let stands = found.guarding();
     let name = table.records[at].name();
     let guarded = table.records.iter().enumerate().any(|(other, record)| {

@@ -1,9 +1,9 @@
 //! Inputs of the list program: the worked example, the stored runs, and seeded random and damaged
 //! ones. Each has a name.
 
-use crate::cases::{self, bytes_of, herd, record, table_of, COW, GROUP, MILKING};
+use crate::cases::{self, bytes_of, herd, record, schema_words, table_of, COW, GROUP, MILKING};
 use crate::label::{label_of, LARGEST_COUNTER};
-use crate::layout::{self, FIELDS, FIELD_COUNT, LIST_CAPACITY, WORD};
+use crate::layout::{self, FIELDS, FIELD_COUNT, LIST_CAPACITY, PLAIN, WORD};
 use crate::random::{self, Random, Shape};
 use crate::table::{Record, Table};
 use crate::vectors::called_table;
@@ -74,6 +74,14 @@ fn full() -> Table {
     table_of(LARGEST_COUNTER, records)
 }
 
+/// The cows of request F-5: ear tag and transponder, each a key.
+fn losers() -> Vec<u8> {
+    let schema = schema_words(&[(&[PLAIN, PLAIN], 0b01, 0b10)]);
+    let values = [[40, 7], [40, 8], [41, 8]];
+    let cows = (1..).zip(values).map(|(replica, of)| record(1, label_of(2, replica), 0, &of));
+    input(&schema, &table_of(2, cows.collect()).words())
+}
+
 /// The stored runs.
 pub fn runs() -> Vec<(String, Vec<u8>)> {
     let schema = herd();
@@ -100,6 +108,7 @@ pub fn runs() -> Vec<(String, Vec<u8>)> {
         ("n-0", input(&schema, &empty)),
         ("n-300", input(&schema, &full().words())),
         ("empty-reference", input(&schema, &cases::table(10).words())),
+        ("losers", losers()),
     ];
     named.into_iter().map(|(name, bytes)| (name.to_string(), bytes)).collect()
 }

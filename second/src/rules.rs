@@ -128,11 +128,21 @@ rules! {
     AnyHops,
     /// Step 2: "each hop landing on a complete record".
     HopOnComplete,
-    /// Step 3: "Drop each standing record that conflicts".
+    /// Step 3: "drops a record exactly if it conflicts".
     DropLosers,
-    /// Step 3: "with an older [...] one (smaller label". Dropped: with any other.
+    /// Step 3: "goes by rising label". Dropped: in the order of the positions.
+    ByRisingLabel,
+    /// Step 3: "goes by rising label"; "Labels compare as numbers." Dropped: by replica before
+    /// counter.
+    LabelAsNumber,
+    /// Step 3: "with an older one"; "smaller label". Dropped: with a younger one.
     OlderWins,
-    /// Step 3: "standing one". Dropped: with any record.
+    /// Step 3: "an older one that step 3 kept". Dropped: any older standing one.
+    LoserBlocksNobody,
+    /// Step 3: "that step 3 kept", by the same rule. Dropped: one that conflicts with no older
+    /// standing one.
+    KeptInTurn,
+    /// Step 3: "standing". Dropped: a record that does not stand is gone through and blocks too.
     StandingWins,
     /// Step 3: "same relation".
     WithinRelation,
@@ -140,6 +150,11 @@ rules! {
     OnSecondKey,
     /// Step 3: "on either key". Dropped: on the last alone.
     OnFirstKey,
+    /// Step 3: "an older one that step 3 kept", on both keys. Dropped: the losers on the first key
+    /// go before the second is looked at.
+    FirstKeyNotBefore,
+    /// The same. Dropped: the losers on the second key go before the first is looked at.
+    SecondKeyNotBefore,
     /// "Two records conflict on a key if all its fields are equal". Dropped: the first of them.
     AllKeyFields,
     /// "and no reference among them is empty (0)".
@@ -356,6 +371,8 @@ rules! {
     UpdateConflict,
     /// 9: "a standing record". Dropped: a shown one.
     ConflictWithStanding,
+    /// "Answer 9 still looks at all standing records." Dropped: at those that step 3 kept.
+    ConflictWithLosers,
     /// 9: "another standing record", in an update.
     ConflictWithAnother,
     /// 9: "on a key that names the field".
@@ -366,6 +383,8 @@ rules! {
     GuardedByAnother,
     /// 10: "standing". Dropped: a shown one.
     GuardedByStanding,
+    /// 10: "standing". Dropped: one that step 3 kept.
+    GuardedByLosers,
     /// 10: "by abort".
     GuardedByAbort,
     /// 11: "insertion with used = N".

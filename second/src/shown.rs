@@ -1,10 +1,11 @@
 //! The shown list: its four steps, the marks and the walk.
 
+use crate::label;
 use crate::rules::{holds, rule, Rule};
 use crate::schema::Schema;
 use crate::table::{self, Record, Table};
 use crate::Answer;
-use std::collections::BTreeMap;
+use std::collections::{BTreeMap, BTreeSet};
 
 /// What a walk gives: the index of the next marked record, or the end of the list.
 #[derive(Clone, Copy, Debug, PartialEq, Eq)]
@@ -85,50 +86,101 @@ pub fn values_of(record: &Record) -> Vec<u64> {
     record.registers.iter().map(|register| register.value).collect()
 }
 
-/// Step 3: the standing records that do not conflict with an older standing one.
+/// Step 3: by rising label, the standing records that conflict with no older one that it kept.
 fn without_losers(schema: &Schema, table: &Table, stands: &[bool]) -> Vec<bool> {
     let mut stays = stands.to_vec();
-    for (number, relation) in schema.relations.iter().enumerate() {
-        for key in looked_at(&relation.keys) {
-            for group in groups(schema, table, stands, number as u64 + 1, key) {
-                let oldest = group.iter().map(|at| table.records[*at].label).min();
-                for at in group.iter().filter(|_| rule(Rule::DropLosers) && group.len() > 1) {
-                    let older = Some(table.records[*at].label) > oldest;
-                    stays[*at] = stays[*at] && !holds(Rule::OlderWins, older);
-                }
+    for (number, relation) in (1..).zip(&schema.relations) {
+        for keys in passes(&relation.keys) {
+            for at in losers(&by_rising_label(schema, table, &stays, number, keys)) {
+                stays[at] = stays[at] && !rule(Rule::DropLosers);
             }
         }
     }
     stays
 }
 
-/// Either key.
-fn looked_at(keys: &[Vec<usize>]) -> &[Vec<usize>] {
-    match keys {
-        [first, _] if !rule(Rule::OnSecondKey) => std::slice::from_ref(first),
-        [_, second] if !rule(Rule::OnFirstKey) => std::slice::from_ref(second),
-        _ => keys,
+/// Either key, both at once.
+fn passes(keys: &[Vec<usize>]) -> Vec<&[Vec<usize>]> {
+    let [first, second] = keys else {
+        return vec![keys];
+    };
+    let [first, second] = [first, second].map(std::slice::from_ref);
+    if !rule(Rule::OnSecondKey) {
+        vec![first]
+    } else if !rule(Rule::OnFirstKey) {
+        vec![second]
+    } else if !rule(Rule::FirstKeyNotBefore) {
+        vec![first, second]
+    } else if !rule(Rule::SecondKeyNotBefore) {
+        vec![second, first]
+    } else {
+        vec![keys]
     }
 }
 
-/// The standing records of a relation, those with equal values under a key in one group.
-fn groups(
+/// A record's position, and its values under each key on which it can conflict.
+type Keyed = (usize, Vec<(usize, Vec<u64>)>);
+
+/// The standing records of a relation in the order of their labels, with their values under these
+/// keys.
+fn by_rising_label(
     schema: &Schema,
     table: &Table,
     stands: &[bool],
     relation: u64,
-    key: &[usize],
-) -> Vec<Vec<usize>> {
-    let mut groups: BTreeMap<Vec<u64>, Vec<usize>> = BTreeMap::new();
-    for (at, record) in table.records.iter().enumerate() {
-        let of = holds(Rule::WithinRelation, record.relation == relation);
-        if of && holds(Rule::StandingWins, stands[at]) {
-            if let Some(values) = key_values(schema, relation, key, &values_of(record)) {
-                groups.entry(values).or_default().push(at);
-            }
+    keys: &[Vec<usize>],
+) -> Vec<Keyed> {
+    let taken = |at: &usize| {
+        holds(Rule::WithinRelation, table.records[*at].relation == relation)
+            && holds(Rule::StandingWins, stands[*at])
+    };
+    let mut order: Vec<usize> = (0..stands.len()).filter(taken).collect();
+    if rule(Rule::ByRisingLabel) {
+        order.sort_by_key(|at| {
+            let label = table.records[*at].label;
+            let replica = if rule(Rule::LabelAsNumber) { 0 } else { label::replica(label) };
+            (replica, label)
+        });
+    }
+    if !rule(Rule::OlderWins) {
+        order.reverse();
+    }
+    let keyed = |at: usize| {
+        let values = values_of(&table.records[at]);
+        let under = |key: &Vec<usize>| key_values(schema, relation, key, &values);
+        let under = keys.iter().map(under).enumerate();
+        (at, under.filter_map(|(key, values)| Some((key, values?))).collect())
+    };
+    order.into_iter().map(keyed).collect()
+}
+
+/// Of these records, those that step 3 drops. A dropped one blocks nobody.
+fn losers(records: &[Keyed]) -> Vec<usize> {
+    if !rule(Rule::LoserBlocksNobody) {
+        return conflicting(records, |_, _| true);
+    }
+    if !rule(Rule::KeptInTurn) {
+        let others = conflicting(records, |_, _| true);
+        return conflicting(records, |at, _| !others.contains(&at));
+    }
+    conflicting(records, |_, conflicts| !conflicts)
+}
+
+/// The records that conflict with one before them that blocks. Whether one blocks is told of its
+/// position and of whether it conflicts itself.
+fn conflicting(records: &[Keyed], blocks: impl Fn(usize, bool) -> bool) -> Vec<usize> {
+    let mut blocked = BTreeSet::new();
+    let mut found = Vec::new();
+    for (at, keys) in records {
+        let conflicts = keys.iter().any(|key| blocked.contains(key));
+        if conflicts {
+            found.push(*at);
+        }
+        if blocks(*at, conflicts) {
+            blocked.extend(keys);
         }
     }
-    groups.into_values().collect()
+    found
 }
 
 fn has_empty(schema: &Schema, record: &Record) -> bool {
@@ -192,23 +244,44 @@ fn closed(schema: &Schema, table: &Table, stays: &[bool]) -> Vec<bool> {
     members
 }
 
-/// The four steps: which records are shown.
-pub fn shown(schema: &Schema, table: &Table) -> Vec<bool> {
-    let stands = standing(schema, table);
-    let stays = without_losers(schema, table, &stands);
+/// Which records each step leaves.
+pub struct Steps {
+    /// Steps 1 and 2.
+    pub standing: Vec<bool>,
+    /// Step 3.
+    pub kept: Vec<bool>,
+    /// Step 4.
+    pub shown: Vec<bool>,
+}
+
+/// The four steps.
+pub fn steps(schema: &Schema, table: &Table) -> Steps {
+    let standing = standing(schema, table);
+    let kept = without_losers(schema, table, &standing);
+    let shown = largest(schema, table, &standing, &kept);
+    Steps { standing, kept, shown }
+}
+
+/// Step 4, with all that the page says of it.
+fn largest(schema: &Schema, table: &Table, stands: &[bool], stays: &[bool]) -> Vec<bool> {
     if !rule(Rule::KeepClosed) {
-        return stays;
+        return stays.to_vec();
     }
     if !rule(Rule::LargestSet) {
-        return built_up(schema, table, &stays);
+        return built_up(schema, table, stays);
     }
-    let members = closed(schema, table, &stays);
+    let members = closed(schema, table, stays);
     if !rule(Rule::LoserStaysOut) {
         let lost = |at: usize| stays[at] && !members[at];
         let stands: Vec<bool> = (0..stands.len()).map(|at| stands[at] && !lost(at)).collect();
         return closed(schema, table, &without_losers(schema, table, &stands));
     }
     members
+}
+
+/// Which records are shown.
+pub fn shown(schema: &Schema, table: &Table) -> Vec<bool> {
+    steps(schema, table).shown
 }
 
 /// Writes the marks; gives the shown count.

@@ -23,6 +23,32 @@ use core::iter::FusedIterator;
 /// assert_eq!(marks.refresh(&schema, &table)?, 0);
 /// # Ok::<(), Error>(())
 /// ```
+///
+/// Of records that share a key, from the oldest on, one is dropped exactly if an older one that is
+/// kept has the key. Three cows with the keys ear tag and transponder, entered apart:
+///
+/// ```
+/// use herd::{book, table_words, Delta, Error, Marks, Table};
+///
+/// let mut delta = Delta::new();
+/// let mut office = Table::start([0; table_words(8)], 1)?;
+/// book::enter_cow(&mut office, &mut delta, 40, 7, None)?;
+/// for (replica, tag) in [(2, 40), (3, 41)] {
+///     let mut robot = Table::start([0; table_words(8)], replica)?;
+///     book::enter_cow(&mut robot, &mut delta, tag, 8, None)?;
+///     office.merge(&book::SCHEMA, &robot)?;
+/// }
+///
+/// // (40, 8) is dropped for (40, 7), and does not hide (41, 8).
+/// let mut marks = Marks::of(&book::SCHEMA, &office, [0; 8])?;
+/// assert_eq!([1, 2, 3].map(|index| marks.is_shown(index)), [true, false, true]);
+///
+/// // Without (40, 7), (40, 8) is kept and (41, 8) is not.
+/// book::strike_cow(&mut office, &mut delta, 1)?;
+/// marks.refresh(&book::SCHEMA, &office)?;
+/// assert_eq!([1, 2, 3].map(|index| marks.is_shown(index)), [false, true, false]);
+/// # Ok::<(), Error>(())
+/// ```
 #[derive(Clone, Debug, PartialEq, Eq)]
 pub struct Marks<B> {
     bytes: B,

@@ -11,19 +11,10 @@ use Rattle.crdt.proofs.Tests.{clash}
 use Rattle.model.specs.Lists.{only, times}
 use Rattle.model.specs.Schemas.{Relation}
 use Rattle.model.specs.Records.{Rec, has, Rising}
-use Rattle.model.specs.Shown.{live, hop, standing, kept, grounded, settled, shown}
-use Rattle.laws.proofs.Join.{rising-weaken}
+use Rattle.model.specs.Shown.{live, hop, standing, beaten, keptAfter, kept, grounded, settled, shown}
+use Rattle.laws.proofs.Join.{rising-weaken, only-rising}
 use Rattle.laws.proofs.Lists.{only-length}
 use Rattle.wellformed.proofs.Follow.{has-cases, has-none}
-
-pub only-rising : (p : Rec → Bool) (b : ℕ) (s : List Rec) → Rising b s → Rising b (only p s)
-unfolding only
-only-rising p b [] r = tt
-only-rising p b (x ∷ xs) r = go (p x) (only-rising p (suc (x .key)) xs (r .1))
-  where
-    go : (q : Bool) → Rising (suc (x .key)) (only p xs) → Rising b (cond q (x ∷ only p xs) (only p xs))
-    go true h = (r .0, h)
-    go false h = rising-weaken b (suc (x .key)) (only p xs) (omega arith) h
 
 -- the keys of rising records are not below their bound
 pub rising-has : (b : ℕ) (s : List Rec) (k : ℕ) → Rising b s → has s k ≡ true → b ≤ k
@@ -53,6 +44,28 @@ module _ (σ : List Relation) (n : ℕ) where
   few-rounds zero s f = f
   few-rounds (suc i) s f = few-rounds i (grounded σ s) (few-only _ n s f)
 
+  after-rising : (b : ℕ) (k s : List Rec) → Rising b s → Rising b (keptAfter σ k s)
+  unfolding keptAfter
+  after-rising b k [] r = tt
+  after-rising b k (x ∷ xs) r = go (beaten σ k x) (after-rising (suc (x .key)) k xs (r .1)) (after-rising (suc (x .key)) (x ∷ k) xs (r .1))
+    where
+      go : (e : Bool) → Rising (suc (x .key)) (keptAfter σ k xs) → Rising (suc (x .key)) (keptAfter σ (x ∷ k) xs) → Rising b (cond e (keptAfter σ k xs) (x ∷ keptAfter σ (x ∷ k) xs))
+      go true d i = rising-weaken b (suc (x .key)) (keptAfter σ k xs) (omega (arith, r .0)) d
+      go false d i = (r .0, i)
+
+  after-length : (k s : List Rec) → length (keptAfter σ k s) ≤ length s
+  unfolding keptAfter
+  after-length k [] = omega arith
+  after-length k (x ∷ xs) = go (beaten σ k x) (after-length k xs) (after-length (x ∷ k) xs)
+    where
+      go : (e : Bool) → length (keptAfter σ k xs) ≤ length xs → length (keptAfter σ (x ∷ k) xs) ≤ length xs → length (cond e (keptAfter σ k xs) (x ∷ keptAfter σ (x ∷ k) xs)) ≤ suc (length xs)
+      go true d i = omega arith
+      go false d i = omega arith
+
+  few-kept : (s : List Rec) → Few n s → Few n (kept σ s)
+  unfolding kept
+  few-kept s f = record { rising = after-rising 0 [] s (f .rising); few = omega (arith, after-length [] s, f .few) }
+
   pub shown-few : (c : List Rec) → Few n c → Few n (shown σ c)
-  unfolding shown settled kept standing
-  shown-few c f = few-rounds _ (kept σ (standing σ c)) (few-only _ n (standing σ c) (few-hops c f (length c) (only (live σ) c) (few-only (live σ) n c f)))
+  unfolding shown settled standing
+  shown-few c f = few-rounds _ (kept σ (standing σ c)) (few-kept (standing σ c) (few-hops c f (length c) (only (live σ) c) (few-only (live σ) n c f)))

@@ -6,9 +6,9 @@ ghost use Rattle.model.specs.Compare.{compareNumber, compareVerdict};
 ghost use Rattle.herd.specs.Version.{version};
 
 // The parts of the version. CHANGELOG.md tells when each one rises.
-const MAJOR: u64 = 2;
+const MAJOR: u64 = 3;
 
-const MINOR: u64 = 2;
+const MINOR: u64 = 0;
 
 const PATCH: u64 = 0;
 

@@ -13,6 +13,7 @@ use borrow.Author.Tests.{eqb-true, eqb-false, lt-ltb, le-ltb, eq-eqb, ne-eqb}
 use Rattle.crdt.specs.Cells.{Cell, joinCell, joinOpt}
 use Rattle.crdt.proofs.Tests.{Tri, low, same, high, tri, test}
 use Rattle.crdt.proofs.Lattice.{opt-lattice}
+use Rattle.model.specs.Lists.{only}
 use Rattle.model.specs.Records.{Rec, insert, join, Rising, own, at}
 
 -- what insert does, by the order of the keys
@@ -48,6 +49,15 @@ insert-rising b e (x ∷ xs) h r = go (tri (e .key) (x .key)) (λ (l : suc (x .k
 pub rising-weaken : (b c : ℕ) (s : List Rec) → b ≤ c → Rising c s → Rising b s
 rising-weaken b c [] h r = tt
 rising-weaken b c (x ∷ xs) h r = (omega (arith, r .0), r .1)
+
+pub only-rising : (p : Rec → Bool) (b : ℕ) (s : List Rec) → Rising b s → Rising b (only p s)
+unfolding only
+only-rising p b [] r = tt
+only-rising p b (x ∷ xs) r = go (p x) (only-rising p (suc (x .key)) xs (r .1))
+  where
+    go : (q : Bool) → Rising (suc (x .key)) (only p xs) → Rising b (cond q (x ∷ only p xs) (only p xs))
+    go true h = (r .0, h)
+    go false h = rising-weaken b (suc (x .key)) (only p xs) (omega arith) h
 
 pub join-rising : (s t : List Rec) → Rising 0 s → Rising 0 (join s t)
 unfolding join

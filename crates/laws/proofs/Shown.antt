@@ -3,18 +3,19 @@
 use Prim.Native.Nat.{ℕ, zero, suc, _≤_, _<_, _-_, _/_, _%_}
 use mathlib.Core.Path.{_≡_, refl, sym, ap}
 use mathlib.Core.Bool.{Bool, true, false, _&&_, _||_, not}
-use mathlib.Core.List.{List, [], _∷_, _++_, Memᴰ·cast, Memᴰ·append-left, List·Memᴰ·append-cases, List·Memᴰ·eq-of-singleton}
-use mathlib.Core.Logic.{_⊎_, inl, inr}
+use mathlib.Core.List.{List, [], _∷_, _++_, Memᴰ·cast, List·Memᴰ·head, List·Memᴰ·tail}
+use mathlib.Core.Logic.{_⊎_, inl, inr, _↔_}
 use native.Mathlib.Omega.{arith}
-use lib.Dec.{eqb, ltb}
+use lib.Dec.{eqb}
 use lib.ListN.{length}
-use borrow.Author.Tests.{eqb-true, eqb-false, eq-eqb, lt-ltb, ltb-true}
+use borrow.Author.Tests.{eqb-true, eqb-false, eq-eqb}
 use Rattle.crdt.specs.Cells.{Reg, Cell}
-use Rattle.crdt.proofs.Tests.{Tri, low, same, high, tri, test, clash, or-cases, or-left, or-right, and-left, and-right, and-both, not-true, not-false}
+use Rattle.crdt.proofs.Tests.{test, clash, or-cases, or-left, or-right, or-false, or-none, and-left, and-right, and-both}
 use Rattle.model.specs.Lists.{only, some-of, all-of, times}
 use Rattle.model.specs.Schemas.{Relation, isReference, isAbort, relationNumbered}
-use Rattle.model.specs.Records.{Rec, relation, has}
-use Rattle.model.specs.Shown.{described, value, rest, complete, targets, references, equalOn, conflictOn, conflict, live, reached, hop, standing, beaten, kept, grounded, settled, shown}
+use Rattle.model.specs.Records.{Rec, relation, has, Rising}
+use Rattle.model.specs.Shown.{described, value, rest, complete, targets, references, equalOn, conflictOn, conflict, live, reached, hop, standing, beaten, keptAfter, kept, grounded, settled, shown}
+use Rattle.laws.proofs.Join.{only-rising}
 use Rattle.laws.proofs.Lists.{_∈_, only-in, in-only, some-in, in-some, all-in, in-all, only-more, only-length, only-less, rests, times-keeps}
 
 pub has-in : (s : List Rec) (k : ℕ) → has s k ≡ true → (x : Rec) × (x ∈ s) × (x .key ≡ k)
@@ -160,38 +161,51 @@ module _ (σ : List Relation) where
       unfolding standing
       standing-least x m = times-least (length c) _ (λ y k. let r = only-in (live σ) y c k in (r .0, starts y (r .0) (r .1))) x m .1
 
-  -- step 3
+  hops-rising : (c : List Rec) → Rising 0 c → (n : ℕ) (s : List Rec) → Rising 0 s → Rising 0 (times n (hop σ c) s)
+  unfolding times hop
+  hops-rising c r zero s h = h
+  hops-rising c r (suc n) s h = hops-rising c r n (hop σ c s) (only-rising _ 0 c r)
+
+  pub standing-rising : (c : List Rec) → Rising 0 c → Rising 0 (standing σ c)
+  unfolding standing
+  standing-rising c r = hops-rising c r (length c) (only (live σ) c) (only-rising (live σ) 0 c r)
+
+  -- step 3: what is kept of z ∷ zs after k
+  after-cases : (k : List Rec) (z : Rec) (zs : List Rec) (x : Rec) → x ∈ keptAfter σ k (z ∷ zs)
+      → ((beaten σ k z ≡ true) × (x ∈ keptAfter σ k zs)) ⊎ ((beaten σ k z ≡ false) × (x ∈ (z ∷ keptAfter σ (z ∷ k) zs)))
+  unfolding keptAfter
+  after-cases k z zs x h = go (test (beaten σ k z))
+    where
+      go : (beaten σ k z ≡ true) ⊎ (beaten σ k z ≡ false) → ((beaten σ k z ≡ true) × (x ∈ keptAfter σ k zs)) ⊎ ((beaten σ k z ≡ false) × (x ∈ (z ∷ keptAfter σ (z ∷ k) zs)))
+      go (inl e) = inl (e, rw e at h)
+      go (inr e) = inr (e, rw e at h)
+
+  after-past : (k : List Rec) (z : Rec) (zs : List Rec) (x : Rec) → beaten σ k z ≡ true → x ∈ keptAfter σ k zs → x ∈ keptAfter σ k (z ∷ zs)
+  unfolding keptAfter
+  after-past k z zs x e m = rw e m
+
+  after-kept : (k : List Rec) (z : Rec) (zs : List Rec) (x : Rec) → beaten σ k z ≡ false → x ∈ (z ∷ keptAfter σ (z ∷ k) zs) → x ∈ keptAfter σ k (z ∷ zs)
+  unfolding keptAfter
+  after-kept k z zs x e m = rw e m
+
+  -- it is one of them, and conflicts with none of k
+  after-in : (k s : List Rec) (x : Rec) → x ∈ keptAfter σ k s → (x ∈ s) × (beaten σ k x ≡ false)
+  unfolding keptAfter beaten some-of
+  after-in k [] x h = elim h [ ]
+  after-in k (z ∷ zs) x h = go (after-cases k z zs x h) (λ (m : x ∈ keptAfter σ k zs). after-in k zs x m) (λ (m : x ∈ keptAfter σ (z ∷ k) zs). after-in (z ∷ k) zs x m)
+    where
+      first : beaten σ k z ≡ false → x ∈ (z ∷ keptAfter σ (z ∷ k) zs) → (x ∈ keptAfter σ (z ∷ k) zs → (x ∈ zs) × (beaten σ (z ∷ k) x ≡ false)) → (x ∈ z ∷ zs) × (beaten σ k x ≡ false)
+      first e (List·Memᴰ·head q) i = (List·Memᴰ·head q, rw q e)
+      first e (List·Memᴰ·tail m) i = let r = i m in (List·Memᴰ·tail (r .0), or-false (conflict σ z x) _ (r .1) .1)
+
+      go : ((beaten σ k z ≡ true) × (x ∈ keptAfter σ k zs)) ⊎ ((beaten σ k z ≡ false) × (x ∈ (z ∷ keptAfter σ (z ∷ k) zs)))
+          → (x ∈ keptAfter σ k zs → (x ∈ zs) × (beaten σ k x ≡ false)) → (x ∈ keptAfter σ (z ∷ k) zs → (x ∈ zs) × (beaten σ (z ∷ k) x ≡ false)) → (x ∈ z ∷ zs) × (beaten σ k x ≡ false)
+      go (inl (e, m)) d i = let r = d m in (List·Memᴰ·tail (r .0), r .1)
+      go (inr (e, m)) d i = first e m i
+
   pub kept-in : (s : List Rec) (x : Rec) → x ∈ kept σ s → x ∈ s
   unfolding kept
-  kept-in s x h = only-in _ x s h .0
-
-  pub kept-unbeaten : (s : List Rec) (x y : Rec) → x ∈ kept σ s → y ∈ s → y .key < x .key → conflict σ y x ≡ false
-  unfolding kept beaten
-  kept-unbeaten s x y h k l = go (test (conflict σ y x))
-    where
-      go : (conflict σ y x ≡ true) ⊎ (conflict σ y x ≡ false) → conflict σ y x ≡ false
-      go (inr e) = e
-      go (inl e) = clash (in-some _ y s k (and-both (ltb (y .key) (x .key)) _ (lt-ltb _ _ l) e)) (not-true _ (only-in _ x s h .1))
-
-  pub kept-all : (s : List Rec) (x : Rec) → x ∈ s → ((y : Rec) → y ∈ s → y .key < x .key → conflict σ y x ≡ false) → x ∈ kept σ s
-  unfolding kept beaten
-  kept-all s x h f = in-only _ x s h (go (test (beaten σ s x)))
-    where
-      go : (beaten σ s x ≡ true) ⊎ (beaten σ s x ≡ false) → not (beaten σ s x) ≡ true
-      go (inr e) = not-false _ e
-      go (inl e) =
-          let r = some-in _ s e in
-          clash (and-right (ltb (r .0 .key) (x .key)) _ (r .2)) (f (r .0) (r .1) (ltb-true _ _ (and-left (ltb (r .0 .key) (x .key)) _ (r .2))))
-
-  -- a record with a larger key than all drops nobody
-  pub largest-drops-none : (s : List Rec) (e : Rec) → ((y : Rec) → y ∈ s → y .key < e .key) → (x : Rec) → x ∈ kept σ s → x ∈ kept σ (s ++ (e ∷ []))
-  largest-drops-none s e above x m =
-      kept-all (s ++ (e ∷ [])) x (Memᴰ·append-left (e ∷ []) (kept-in s x m))
-      (λ y k l. older y l (List·Memᴰ·append-cases s k))
-    where
-      older : (y : Rec) → y .key < x .key → y ∈ s ⊎ y ∈ (e ∷ []) → conflict σ y x ≡ false
-      older y l (inl k) = kept-unbeaten s x y m k l
-      older y l (inr k) = let q : y ≡ e = List·Memᴰ·eq-of-singleton k in absurd (omega (arith, above x (kept-in s x m), ap (λ (z : Rec). z .key) q))
+  kept-in s x h = after-in [] s x h .0
 
   -- the shown list
   value-ref : (k v w : ℕ) → (eqb v w && not (isReference k && eqb v 0)) ≡ (eqb w v && not (isReference k && eqb w 0))
@@ -224,13 +238,99 @@ module _ (σ : List Relation) where
       and-both _ _ (eq-eqb _ _ (sym e)) (cc (r, on-sym (described σ x .key1) x y d, on-sym (described σ x .key2) x y d))
 
   -- no two that step 3 keeps conflict
-  pub kept-apart : (s : List Rec) (x y : Rec) → x ∈ kept σ s → y ∈ kept σ s → conflict σ x y ≡ true → x .key ≡ y .key
-  kept-apart s x y wx wy h = go (tri (x .key) (y .key))
+  after-first : (k zs : List Rec) (z y : Rec) → y ∈ keptAfter σ (z ∷ k) zs → conflict σ z y ≡ false
+  unfolding beaten some-of
+  after-first k zs z y m = or-false (conflict σ z y) _ (after-in (z ∷ k) zs y m .1) .0
+
+  after-apart : (k s : List Rec) (x y : Rec) → x ∈ keptAfter σ k s → y ∈ keptAfter σ k s → conflict σ x y ≡ true → x .key ≡ y .key
+  unfolding keptAfter
+  after-apart k [] x y hx hy h = elim hx [ ]
+  after-apart k (z ∷ zs) x y hx hy h =
+      go (after-cases k z zs x hx) (after-cases k z zs y hy) (λ (m : x ∈ keptAfter σ k zs) (n : y ∈ keptAfter σ k zs). after-apart k zs x y m n h)
+      (λ (m : x ∈ keptAfter σ (z ∷ k) zs) (n : y ∈ keptAfter σ (z ∷ k) zs). after-apart (z ∷ k) zs x y m n h)
     where
-      go : Tri (x .key) (y .key) → x .key ≡ y .key
-      go (low l) = clash h (kept-unbeaten s y x wy (kept-in s x wx) l)
-      go (same e) = e
-      go (high l) = clash (conflict-sym x y h) (kept-unbeaten s x y wx (kept-in s y wy) l)
+      first : x ∈ (z ∷ keptAfter σ (z ∷ k) zs) → y ∈ (z ∷ keptAfter σ (z ∷ k) zs) → (x ∈ keptAfter σ (z ∷ k) zs → y ∈ keptAfter σ (z ∷ k) zs → x .key ≡ y .key) → x .key ≡ y .key
+      first (List·Memᴰ·head p) (List·Memᴰ·head q) i = cc (p, q)
+      first (List·Memᴰ·head p) (List·Memᴰ·tail n) i = let h′ : conflict σ z y ≡ true = rw p at h in clash h′ (after-first k zs z y n)
+      first (List·Memᴰ·tail m) (List·Memᴰ·head q) i = let h′ : conflict σ z x ≡ true = rw q at (conflict-sym x y h) in clash h′ (after-first k zs z x m)
+      first (List·Memᴰ·tail m) (List·Memᴰ·tail n) i = i m n
+
+      go : ((beaten σ k z ≡ true) × (x ∈ keptAfter σ k zs)) ⊎ ((beaten σ k z ≡ false) × (x ∈ (z ∷ keptAfter σ (z ∷ k) zs)))
+          → ((beaten σ k z ≡ true) × (y ∈ keptAfter σ k zs)) ⊎ ((beaten σ k z ≡ false) × (y ∈ (z ∷ keptAfter σ (z ∷ k) zs)))
+          → (x ∈ keptAfter σ k zs → y ∈ keptAfter σ k zs → x .key ≡ y .key) → (x ∈ keptAfter σ (z ∷ k) zs → y ∈ keptAfter σ (z ∷ k) zs → x .key ≡ y .key) → x .key ≡ y .key
+      go (inl (e, m)) (inl (f, n)) d i = d m n
+      go (inl (e, m)) (inr (f, n)) d i = clash e f
+      go (inr (e, m)) (inl (f, n)) d i = clash f e
+      go (inr (e, m)) (inr (f, n)) d i = first m n i
+
+  pub kept-apart : (s : List Rec) (x y : Rec) → x ∈ kept σ s → y ∈ kept σ s → conflict σ x y ≡ true → x .key ≡ y .key
+  unfolding kept
+  kept-apart s x y wx wy h = after-apart [] s x y wx wy h
+
+  -- a record with a larger key than all drops nobody
+  after-more : (k s t : List Rec) (x : Rec) → x ∈ keptAfter σ k s → x ∈ keptAfter σ k (s ++ t)
+  unfolding keptAfter
+  after-more k [] t x h = elim h [ ]
+  after-more k (z ∷ zs) t x h =
+      go (after-cases k z zs x h) (λ (m : x ∈ keptAfter σ k zs). after-more k zs t x m) (λ (m : x ∈ keptAfter σ (z ∷ k) zs). after-more (z ∷ k) zs t x m)
+    where
+      first : x ∈ (z ∷ keptAfter σ (z ∷ k) zs) → (x ∈ keptAfter σ (z ∷ k) zs → x ∈ keptAfter σ (z ∷ k) (zs ++ t)) → x ∈ (z ∷ keptAfter σ (z ∷ k) (zs ++ t))
+      first (List·Memᴰ·head p) i = List·Memᴰ·head p
+      first (List·Memᴰ·tail m) i = List·Memᴰ·tail (i m)
+
+      go : ((beaten σ k z ≡ true) × (x ∈ keptAfter σ k zs)) ⊎ ((beaten σ k z ≡ false) × (x ∈ (z ∷ keptAfter σ (z ∷ k) zs)))
+          → (x ∈ keptAfter σ k zs → x ∈ keptAfter σ k (zs ++ t)) → (x ∈ keptAfter σ (z ∷ k) zs → x ∈ keptAfter σ (z ∷ k) (zs ++ t)) → x ∈ keptAfter σ k (z ∷ (zs ++ t))
+      go (inl (e, m)) d i = after-past k z (zs ++ t) x e (d m)
+      go (inr (e, m)) d i = after-kept k z (zs ++ t) x e (first m i)
+
+  pub largest-drops-none : (s : List Rec) (e : Rec) → ((y : Rec) → y ∈ s → y .key < e .key) → (x : Rec) → x ∈ kept σ s → x ∈ kept σ (s ++ (e ∷ []))
+  unfolding kept
+  largest-drops-none s e above x m = after-more [] s (e ∷ []) x m
+
+  -- what conflicts with no older one that is kept, is kept
+  rising-above : (b : ℕ) (s : List Rec) (x : Rec) → Rising b s → x ∈ s → b ≤ x .key
+  rising-above b (y ∷ ys) x r (List·Memᴰ·head q) = omega (arith, r .0, ap (λ (z : Rec). z .key) q)
+  rising-above b (y ∷ ys) x r (List·Memᴰ·tail m) = omega (arith, r .0, rising-above (suc (y .key)) ys x (r .1) m)
+
+  abbrev Free : List Rec → Rec → Type 0
+  Free l x = (y : Rec) → y ∈ l → y .key < x .key → conflict σ y x ≡ false
+
+  after-all : (b : ℕ) (k s : List Rec) (x : Rec) → Rising b s → x ∈ s → beaten σ k x ≡ false → Free (keptAfter σ k s) x → x ∈ keptAfter σ k s
+  unfolding beaten some-of
+  after-all b k (z ∷ zs) x r m e f =
+      go (test (beaten σ k z)) m (λ (n : x ∈ zs) (g : Free (keptAfter σ k zs) x). after-all (suc (z .key)) k zs x (r .1) n e g)
+      (λ (n : x ∈ zs) (e′ : beaten σ (z ∷ k) x ≡ false) (g : Free (keptAfter σ (z ∷ k) zs) x). after-all (suc (z .key)) (z ∷ k) zs x (r .1) n e′ g)
+    where
+      go : (beaten σ k z ≡ true) ⊎ (beaten σ k z ≡ false) → x ∈ z ∷ zs → (x ∈ zs → Free (keptAfter σ k zs) x → x ∈ keptAfter σ k zs)
+          → (x ∈ zs → beaten σ (z ∷ k) x ≡ false → Free (keptAfter σ (z ∷ k) zs) x → x ∈ keptAfter σ (z ∷ k) zs) → x ∈ keptAfter σ k (z ∷ zs)
+      go (inl q) (List·Memᴰ·head p) d i = let q′ : beaten σ k x ≡ true = rw p q in clash q′ e
+      go (inl q) (List·Memᴰ·tail n) d i = after-past k z zs x q (d n (λ y o. f y (after-past k z zs y q o)))
+      go (inr q) (List·Memᴰ·head p) d i = after-kept k z zs x q (List·Memᴰ·head p)
+      go (inr q) (List·Memᴰ·tail n) d i =
+          let l = rising-above (suc (z .key)) zs x (r .1) n in
+          let c = f z (after-kept k z zs z q (List·Memᴰ·head refl)) l in
+          after-kept k z zs x q (List·Memᴰ·tail (i n (or-none (conflict σ z x) _ c e) (λ y o. f y (after-kept k z zs y q (List·Memᴰ·tail o)))))
+
+  -- step 3 "drops a record exactly if it conflicts with an older one that step 3 kept"
+  pub kept-exactly : (s : List Rec) (r : Rising 0 s) (x : Rec) → x ∈ s → (x ∈ kept σ s) ↔ ((y : Rec) → y ∈ kept σ s → y .key < x .key → conflict σ y x ≡ false)
+  unfolding kept beaten some-of
+  kept-exactly s r x m = (λ h y k l. apart h y k l (test (conflict σ y x)), λ f. after-all 0 [] s x r m refl f)
+    where
+      apart : x ∈ keptAfter σ [] s → (y : Rec) → y ∈ keptAfter σ [] s → y .key < x .key → (conflict σ y x ≡ true) ⊎ (conflict σ y x ≡ false) → conflict σ y x ≡ false
+      apart h y k l (inl e) = absurd (omega (arith, kept-apart s y x k h e))
+      apart h y k l (inr e) = e
+
+  -- and no other choice does so
+  module _ (s : List Rec) (r : Rising 0 s) (K : Rec → Type 0) (exact : (x : Rec) → x ∈ s → K x ↔ ((y : Rec) → y ∈ s → K y → y .key < x .key → conflict σ y x ≡ false)) where
+    same-below : (n : ℕ) (x : Rec) → x ∈ s → x .key < n → K x ↔ (x ∈ kept σ s)
+    same-below zero x m l = absurd (omega arith)
+    same-below (suc n) x m l = (
+      λ h. kept-exactly s r x m .1 (λ y k o. exact x m .0 h y (kept-in s y k) (same-below n y (kept-in s y k) (omega arith) .1 k) o),
+      λ h. exact x m .1 (λ y i k o. kept-exactly s r x m .0 h y (same-below n y i (omega arith) .0 k) o),
+    )
+
+    pub kept-only : (x : Rec) → x ∈ s → K x ↔ (x ∈ kept σ s)
+    kept-only x m = same-below (suc (x .key)) x m (omega arith)
 
   -- no key that is free of empty references occurs twice
   pub shown-keys : (c : List Rec) (x y : Rec) → x ∈ shown σ c → y ∈ shown σ c → conflict σ x y ≡ true → x .key ≡ y .key

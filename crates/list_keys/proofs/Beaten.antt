@@ -1,32 +1,33 @@
--- Step 3 by the losers of each key: a standing record is kept unless it loses on one of the two keys of its relation.
+-- Step 3 by marks: where those of the older records of its relation are the kept ones, a standing record is kept unless it is beaten on a key.
 -- Assumes nothing.
 use Prim.Native.Nat.{ℕ, _+_, _-_, _≤_, _<_}
-use mathlib.Core.Path.{_≡_, sym, _∙_, ap}
+use mathlib.Core.Path.{_≡_, refl, sym, _∙_, ap}
 use mathlib.Core.Logic.{_⊎_, inl, inr}
 use mathlib.Core.Bool.{Bool, true, false, cond, _&&_, _||_, not}
 use mathlib.Core.List.{List}
 use native.Mathlib.Omega.{arith}
-use lib.Dec.{eqb, ltb}
+use lib.Dec.{eqb}
 use lib.ListN.{getD}
-use borrow.Author.Tests.{eqb-true, ltb-true, lt-ltb}
-use Rattle.crdt.proofs.Tests.{Tri, low, same, high, tri, test, clash, or-cases, or-left, or-right, and-left, and-right, and-both, not-true, not-false}
+use borrow.Author.Tests.{eqb-true, eq-eqb}
+use Rattle.crdt.proofs.Tests.{Tri, low, same, high, tri, test, clash, or-left, or-right, or-none, and-left}
 use Rattle.model.specs.Layout.{mostRelations, usedAt, relationAt, labelAt, maskAt}
 use Rattle.model.specs.Schemas.{Relation, broken, schemaOf}
-use Rattle.model.specs.Records.{Rec, relation, has, inOrder}
+use Rattle.model.specs.Records.{Rec, place, relation, has, inOrder, Rising}
 use Rattle.model.specs.Tables.{recordOf, decode}
 use Rattle.model.specs.WellFormed.{wellFormed}
-use Rattle.model.specs.Shown.{conflictOn, conflict, described, standing, beaten, kept}
-use Rattle.laws.proofs.Lists.{_∈_, only-in, in-only, some-in, in-some}
-use Rattle.laws.proofs.Shown.{standing-in, kept-in}
+use Rattle.model.specs.Shown.{conflictOn, conflict, described, kept}
+use Rattle.laws.proofs.Lists.{_∈_}
+use Rattle.laws.proofs.Order.{order-rising}
+use Rattle.laws.proofs.Shown.{standing-in, standing-rising, kept-in, kept-apart, kept-exactly}
 use Rattle.marks.specs.Marks.{isMarked}
+use Rattle.marks.proofs.Marks.{marked-here}
 use Rattle.marks.proofs.Members.{in-record, member-at, holds}
-use Rattle.marks.proofs.Chain.{own-relation}
+use Rattle.marks.proofs.Chain.{labels, own-relation}
 use Rattle.references.specs.Resolved.{Marked}
-use Rattle.list_keys.specs.Buckets.{beatenOn, losesOn}
-use Rattle.list_keys.specs.Passes.{Passed, Copied}
 use Rattle.list_conflicts.proofs.Keys.{relation-own, records-meet}
-use Rattle.list_keys.proofs.Listed.{mark, member-marked, marked-member}
-use Rattle.list_keys.proofs.Bucketed.{Beating, beaten-by, by-beaten}
+use Rattle.list_keys.specs.Buckets.{beatenOn, loses}
+use Rattle.list_keys.specs.Passes.{stood, stoodMark, keptMark, Upto, Copied}
+use Rattle.list_keys.proofs.Bucketed.{beaten-by, by-beaten}
 
 -- the order of keys of one relation is that of labels
 key-less : (t : List ℕ) (i j : ℕ) → relationAt t j ≡ relationAt t i → labelAt t j < labelAt t i → recordOf t j .key < recordOf t i .key
@@ -41,142 +42,143 @@ conflict-relation : (σ : List Relation) (x y : Rec) → conflict σ x y ≡ tru
 unfolding conflict
 conflict-relation σ x y h = eqb-true (relation x) (relation y) (and-left (eqb (relation x) (relation y)) (conflictOn σ (described σ x .key1) x y || conflictOn σ (described σ x .key2) x y) h)
 
--- the mark of record i after step 3
-abbrev pub after : List ℕ → List ℕ → ℕ → ℕ
-after s t i = mark (has (kept (schemaOf s) (standing (schemaOf s) (inOrder (decode t .records)))) (recordOf t i .key))
-
--- the marks of the first n relations are those after step 3, and the others those of the standing records, k
-pub record Upto (s t k : List ℕ) (n : ℕ) (c : List ℕ) : Type 0 where
-  pub done : (i : ℕ) → 1 ≤ i → i ≤ usedAt t → relationAt t i ≤ n → getD c (i - 1) 0 ≡ after s t i
-  pub rest : (i : ℕ) → 1 ≤ i → i ≤ usedAt t → n < relationAt t i → getD c (i - 1) 0 ≡ mark (isMarked k i)
+-- a mark by whether it is a member's
+marked-is : (a : List ℕ) (i : ℕ) (x : Bool) → 1 ≤ i → getD a (i - 1) 0 ≡ cond x 1 0 → isMarked a i ≡ x
+marked-is a i x l e = sym (marked-here a i l) ∙ ap (λ (v : ℕ). eqb v 1) e ∙ go x
+  where
+    go : (y : Bool) → eqb (cond y 1 0) 1 ≡ y
+    go true = refl
+    go false = refl
 
 module _ (s t : List ℕ) (b : broken s ≡ false) (w : wellFormed s t ≡ true) where
-  abbrev stands : List Rec
-  stands = standing (schemaOf s) (inOrder (decode t .records))
+  abbrev keeps : List Rec
+  keeps = kept (schemaOf s) (stood s t)
 
-  part : (x : Rec) → x ∈ stands → x ∈ inOrder (decode t .records)
+  part : (x : Rec) → x ∈ stood s t → x ∈ inOrder (decode t .records)
   part x h = standing-in (schemaOf s) (inOrder (decode t .records)) x h .0
 
-  module _ (k : List ℕ) (mk : Marked t stands k) where
-    module _ (i : ℕ) (a : 1 ≤ i) (g : i ≤ usedAt t) where
-      -- record i loses on key n of its relation
-      abbrev loses : ℕ → Bool
-      loses n = losesOn s t k (maskAt s (relationAt t i) n) i
+  kept-part : (x : Rec) → x ∈ keeps → x ∈ inOrder (decode t .records)
+  kept-part x h = part x (kept-in (schemaOf s) (stood s t) x h)
 
-      -- on either key
-      either : (j : ℕ) → 1 ≤ j → j ≤ usedAt t → relationAt t j ≡ relationAt t i
-          → (conflictOn (schemaOf s) (maskAt s (relationAt t i) 1) (recordOf t j) (recordOf t i) || conflictOn (schemaOf s) (maskAt s (relationAt t i) 2) (recordOf t j) (recordOf t i))
-          ≡ conflict (schemaOf s) (recordOf t j) (recordOf t i)
-      either j p q e = rw e at (records-meet s t b w j i p q a g e)
+  rises : Rising 0 (stood s t)
+  rises = standing-rising (schemaOf s) (inOrder (decode t .records)) (order-rising (decode t .records))
 
-      beaten-if : (j : ℕ) → 1 ≤ j → j ≤ usedAt t → isMarked k j ≡ true → relationAt t j ≡ relationAt t i → labelAt t j < labelAt t i
-          → conflict (schemaOf s) (recordOf t j) (recordOf t i) ≡ true → beaten (schemaOf s) stands (recordOf t i) ≡ true
-      unfolding beaten
-      beaten-if j p q z e l f =
-          in-some (λ (y : Rec). ltb (y .key) (recordOf t i .key) && conflict (schemaOf s) y (recordOf t i)) (recordOf t j) stands
-          (marked-member s t b w stands k mk part j p q z)
-          (and-both (ltb (recordOf t j .key) (recordOf t i .key)) (conflict (schemaOf s) (recordOf t j) (recordOf t i)) (lt-ltb _ _ (key-less t i j e l)) f)
-
-      first-beaten : loses 1 ≡ true → beaten (schemaOf s) stands (recordOf t i) ≡ true
-      unfolding losesOn
-      first-beaten h =
-          let r = beaten-by s t k (maskAt s (relationAt t i) 1) i (and-right (isMarked k i) (beatenOn s t k (maskAt s (relationAt t i) 1) i) h) in
-          let j = r .0 in
-          beaten-if j (r .1) (r .2) (r .3 .stands) (r .3 .related) (r .3 .older)
-          (sym (either j (r .1) (r .2) (r .3 .related))
-          ∙ or-left (conflictOn (schemaOf s) (maskAt s (relationAt t i) 1) (recordOf t j) (recordOf t i)) (conflictOn (schemaOf s) (maskAt s (relationAt t i) 2) (recordOf t j) (recordOf t i)) (r .3 .meets))
-
-      second-beaten : loses 2 ≡ true → beaten (schemaOf s) stands (recordOf t i) ≡ true
-      unfolding losesOn
-      second-beaten h =
-          let r = beaten-by s t k (maskAt s (relationAt t i) 2) i (and-right (isMarked k i) (beatenOn s t k (maskAt s (relationAt t i) 2) i) h) in
-          let j = r .0 in
-          beaten-if j (r .1) (r .2) (r .3 .stands) (r .3 .related) (r .3 .older)
-          (sym (either j (r .1) (r .2) (r .3 .related))
-          ∙ or-right (conflictOn (schemaOf s) (maskAt s (relationAt t i) 1) (recordOf t j) (recordOf t i)) (conflictOn (schemaOf s) (maskAt s (relationAt t i) 2) (recordOf t j) (recordOf t i)) (r .3 .meets))
-
-      lost : (n j : ℕ) → isMarked k i ≡ true → 1 ≤ j → j ≤ usedAt t → Beating s t k (maskAt s (relationAt t i) n) i j → loses n ≡ true
-      unfolding losesOn
-      lost n j z p q h = and-both (isMarked k i) (beatenOn s t k (maskAt s (relationAt t i) n) i) z (by-beaten s t k (maskAt s (relationAt t i) n) i j p q h)
-
-      unbeaten : isMarked k i ≡ true → loses 1 ≡ false → loses 2 ≡ false → beaten (schemaOf s) stands (recordOf t i) ≡ false
-      unfolding beaten
-      unbeaten z e f = go (test (beaten (schemaOf s) stands (recordOf t i)))
-        where
-          by : (j : ℕ) → 1 ≤ j → j ≤ usedAt t → isMarked k j ≡ true → relationAt t j ≡ relationAt t i → labelAt t j < labelAt t i
-              → (conflictOn (schemaOf s) (maskAt s (relationAt t i) 1) (recordOf t j) (recordOf t i) ≡ true) ⊎ (conflictOn (schemaOf s) (maskAt s (relationAt t i) 2) (recordOf t j) (recordOf t i) ≡ true) → ⊥
-          by j p q y r l (inl h) = clash (lost 1 j z p q (record { stands = y; related = r; older = l; meets = h })) e
-          by j p q y r l (inr h) = clash (lost 2 j z p q (record { stands = y; related = r; older = l; meets = h })) f
-
-          found : (x : Rec) → x ∈ stands → (ltb (x .key) (recordOf t i .key) && conflict (schemaOf s) x (recordOf t i)) ≡ true → ⊥
-          found x h c =
-              let r = in-record s t b w x (part x h) in
-              let j = r .0 in
-              let x-in : recordOf t j ∈ stands = rw (r .3) at h in
-              let c′ : (ltb (recordOf t j .key) (recordOf t i .key) && conflict (schemaOf s) (recordOf t j) (recordOf t i)) ≡ true = rw (r .3) at c in
-              let cf = and-right (ltb (recordOf t j .key) (recordOf t i .key)) (conflict (schemaOf s) (recordOf t j) (recordOf t i)) c′ in
-              let kl = ltb-true _ _ (and-left (ltb (recordOf t j .key) (recordOf t i .key)) (conflict (schemaOf s) (recordOf t j) (recordOf t i)) c′) in
-              let q : relationAt t j ≡ relationAt t i
-              = sym (relation-own s t b w j (r .1) (r .2)) ∙ conflict-relation (schemaOf s) (recordOf t j) (recordOf t i) cf ∙ relation-own s t b w i a g in
-              by j (r .1) (r .2) (member-marked s t b w stands k mk j (r .1) (r .2) x-in) q (less-key t i j q kl) (or-cases _ _ (either j (r .1) (r .2) q ∙ cf))
-
-          go : (beaten (schemaOf s) stands (recordOf t i) ≡ true) ⊎ (beaten (schemaOf s) stands (recordOf t i) ≡ false) → beaten (schemaOf s) stands (recordOf t i) ≡ false
-          go (inl p) = let r = some-in (λ (y : Rec). ltb (y .key) (recordOf t i .key) && conflict (schemaOf s) y (recordOf t i)) stands p in absurd (found (r .0) (r .1) (r .2))
-          go (inr p) = p
-
-      kept-part : (x : Rec) → x ∈ kept (schemaOf s) stands → x ∈ inOrder (decode t .records)
-      kept-part x h = part x (kept-in (schemaOf s) stands x h)
-
-      kept-none : isMarked k i ≡ false → 0 ≡ after s t i
-      kept-none e = go (test (has (kept (schemaOf s) stands) (recordOf t i .key)))
-        where
-          go : (has (kept (schemaOf s) stands) (recordOf t i .key) ≡ true) ⊎ (has (kept (schemaOf s) stands) (recordOf t i .key) ≡ false) → 0 ≡ after s t i
-          go (inl p) = clash (member-marked s t b w stands k mk i a g (kept-in (schemaOf s) stands _ (member-at s t b w (kept (schemaOf s) stands) kept-part i a g p))) e
-          go (inr p) = rw p
-
-      kept-beaten : beaten (schemaOf s) stands (recordOf t i) ≡ true → 0 ≡ after s t i
-      unfolding kept
-      kept-beaten e = go (test (has (kept (schemaOf s) stands) (recordOf t i .key)))
-        where
-          go : (has (kept (schemaOf s) stands) (recordOf t i .key) ≡ true) ⊎ (has (kept (schemaOf s) stands) (recordOf t i .key) ≡ false) → 0 ≡ after s t i
-          go (inl p) = clash e (not-true _ (only-in (λ (x : Rec). not (beaten (schemaOf s) stands x)) (recordOf t i) stands (member-at s t b w (kept (schemaOf s) stands) kept-part i a g p) .1))
-          go (inr p) = rw p
-
-      kept-one : isMarked k i ≡ true → beaten (schemaOf s) stands (recordOf t i) ≡ false → 1 ≡ after s t i
-      unfolding kept
-      kept-one e f =
-          let h = in-only (λ (x : Rec). not (beaten (schemaOf s) stands x)) (recordOf t i) stands (marked-member s t b w stands k mk part i a g e) (not-false _ f) in
-          rw (holds s t b w (kept (schemaOf s) stands) i h)
-
-      kept-mark : cond (loses 2) 0 (cond (loses 1) 0 (mark (isMarked k i))) ≡ after s t i
-      kept-mark = go (test (isMarked k i)) (test (loses 1)) (test (loses 2))
-        where
-          go : (isMarked k i ≡ true) ⊎ (isMarked k i ≡ false) → (loses 1 ≡ true) ⊎ (loses 1 ≡ false) → (loses 2 ≡ true) ⊎ (loses 2 ≡ false) → cond (loses 2) 0 (cond (loses 1) 0 (mark (isMarked k i))) ≡ after s t i
-          go x y (inl f) = rw f (kept-beaten (second-beaten f))
-          go x (inl e) (inr f) = rw (f, e) (kept-beaten (first-beaten e))
-          go (inl z) (inr e) (inr f) = rw (f, e, z) (kept-one z (unbeaten z e f))
-          go (inr z) (inr e) (inr f) = rw (f, e, z) (kept-none z)
-
-    pub upto-none : (n : ℕ) (c : List ℕ) → n ≡ usedAt t → Copied k n c → Upto s t k 0 c
-    upto-none n c e h =
-        record {
-          done = λ i a g l. absurd (omega (arith, own-relation s t b w i a g));
-          rest = λ i a g l. let q : i - 1 + 1 ≡ i = omega arith in rw q at (h .at (i - 1) (omega arith));
-        }
-
-    pub upto-more : (n : ℕ) (c d : List ℕ) → Upto s t k n c → Passed s t k (n + 1) c d → Upto s t k (n + 1) d
-    upto-more n c d u p = record { done = λ i a g l. go i a g l (tri (relationAt t i) (n + 1)); rest = λ i a g l. p .others i a g (λ q. omega arith) ∙ u .rest i a g (omega arith) }
+  module _ (i : ℕ) (a : 1 ≤ i) (g : i ≤ usedAt t) where
+    -- one that does not stand is not kept
+    kept-none : has (stood s t) (recordOf t i .key) ≡ false → has keeps (recordOf t i .key) ≡ false
+    kept-none e = go (test (has keeps (recordOf t i .key)))
       where
-        own : (i : ℕ) (a : 1 ≤ i) (g : i ≤ usedAt t) → relationAt t i ≡ n + 1 → getD d (i - 1) 0 ≡ after s t i
-        own i a g q =
-            p .own i a g q
-            ∙ ap (λ (v : ℕ). cond (losesOn s t k (maskAt s (n + 1) 2) i) 0 (cond (losesOn s t k (maskAt s (n + 1) 1) i) 0 v)) (u .rest i a g (omega arith))
-            ∙ (rw q at (kept-mark i a g))
+        go : (has keeps (recordOf t i .key) ≡ true) ⊎ (has keeps (recordOf t i .key) ≡ false) → has keeps (recordOf t i .key) ≡ false
+        go (inl p) = clash (holds s t b w (stood s t) i (kept-in (schemaOf s) (stood s t) _ (member-at s t b w keeps kept-part i a g p))) e
+        go (inr p) = p
 
-        go : (i : ℕ) (a : 1 ≤ i) (g : i ≤ usedAt t) → relationAt t i ≤ n + 1 → Tri (relationAt t i) (n + 1) → getD d (i - 1) 0 ≡ after s t i
-        go i a g l (low q) = p .others i a g (λ z. omega arith) ∙ u .done i a g (omega arith)
-        go i a g l (same q) = own i a g q
-        go i a g l (high q) = absurd (omega arith)
+    -- on either key
+    either : (j : ℕ) → 1 ≤ j → j ≤ usedAt t → relationAt t j ≡ relationAt t i
+        → (conflictOn (schemaOf s) (maskAt s (relationAt t i) 1) (recordOf t j) (recordOf t i) || conflictOn (schemaOf s) (maskAt s (relationAt t i) 2) (recordOf t j) (recordOf t i))
+        ≡ conflict (schemaOf s) (recordOf t j) (recordOf t i)
+    either j p q e = rw e at (records-meet s t b w j i p q a g e)
 
-    pub upto-all : (n : ℕ) (c : List ℕ) → Upto s t k n c → mostRelations ≤ n → Marked t (kept (schemaOf s) stands) c
-    upto-all n c u h = record { at = λ i a g. u .done i a g (omega (arith, own-relation s t b w i a g)) }
+    -- one that stands and conflicts with no older one of its relation that is kept, on either key, is kept
+    abbrev Clear : ℕ → Type 0
+    Clear j = relationAt t j ≡ relationAt t i → labelAt t j < labelAt t i → has keeps (recordOf t j .key) ≡ true
+        → (conflictOn (schemaOf s) (maskAt s (relationAt t i) 1) (recordOf t j) (recordOf t i) || conflictOn (schemaOf s) (maskAt s (relationAt t i) 2) (recordOf t j) (recordOf t i)) ≡ false
+
+    kept-one : has (stood s t) (recordOf t i .key) ≡ true → ((j : ℕ) → 1 ≤ j → j ≤ usedAt t → Clear j) → has keeps (recordOf t i .key) ≡ true
+    kept-one e clear =
+        holds s t b w keeps i
+        (kept-exactly (schemaOf s) (stood s t) rises (recordOf t i) (member-at s t b w (stood s t) part i a g e) .1 (λ y h l. free y h l (test (conflict (schemaOf s) y (recordOf t i)))))
+      where
+        free : (y : Rec) → y ∈ keeps → y .key < recordOf t i .key → (conflict (schemaOf s) y (recordOf t i) ≡ true) ⊎ (conflict (schemaOf s) y (recordOf t i) ≡ false) → conflict (schemaOf s) y (recordOf t i) ≡ false
+        free y h l (inr c) = c
+        free y h l (inl c) =
+            let r = in-record s t b w y (kept-part y h) in
+            let j = r .0 in
+            let h′ : recordOf t j ∈ keeps = rw (r .3) at h in
+            let l′ : recordOf t j .key < recordOf t i .key = rw (r .3) at l in
+            let c′ : conflict (schemaOf s) (recordOf t j) (recordOf t i) ≡ true = rw (r .3) at c in
+            let q : relationAt t j ≡ relationAt t i
+            = sym (relation-own s t b w j (r .1) (r .2)) ∙ conflict-relation (schemaOf s) (recordOf t j) (recordOf t i) c′ ∙ relation-own s t b w i a g in
+            clash (either j (r .1) (r .2) q ∙ c′) (clear j (r .1) (r .2) q (less-key t i j q l′) (holds s t b w keeps j h′))
+
+    -- marks c: those of the older records of its relation are the kept ones, and its own is that of the standing ones
+    module _ (c : List ℕ) (m n : ℕ) (em : m ≡ maskAt s (relationAt t i) 1) (en : n ≡ maskAt s (relationAt t i) 2)
+        (older : (j : ℕ) → 1 ≤ j → j ≤ usedAt t → relationAt t j ≡ relationAt t i → labelAt t j < labelAt t i → getD c (j - 1) 0 ≡ keptMark s t j) (itself : getD c (i - 1) 0 ≡ stoodMark s t i) where
+      beaten-dropped : (k : ℕ) → (k ≡ maskAt s (relationAt t i) 1) ⊎ (k ≡ maskAt s (relationAt t i) 2) → beatenOn s t c k i ≡ true → has keeps (recordOf t i .key) ≡ false
+      beaten-dropped k ek h = go (test (has keeps (recordOf t i .key)))
+        where
+          meets : (j : ℕ) → (k ≡ maskAt s (relationAt t i) 1) ⊎ (k ≡ maskAt s (relationAt t i) 2) → conflictOn (schemaOf s) k (recordOf t j) (recordOf t i) ≡ true
+              → (conflictOn (schemaOf s) (maskAt s (relationAt t i) 1) (recordOf t j) (recordOf t i) || conflictOn (schemaOf s) (maskAt s (relationAt t i) 2) (recordOf t j) (recordOf t i)) ≡ true
+          meets j (inl e) f = or-left _ _ (rw e at f)
+          meets j (inr e) f = or-right (conflictOn (schemaOf s) (maskAt s (relationAt t i) 1) (recordOf t j) (recordOf t i)) _ (rw e at f)
+
+          go : (has keeps (recordOf t i .key) ≡ true) ⊎ (has keeps (recordOf t i .key) ≡ false) → has keeps (recordOf t i .key) ≡ false
+          go (inr p) = p
+          go (inl p) =
+              let r = beaten-by s t c k i h in
+              let j = r .0 in
+              let z = sym (marked-is c j (has keeps (recordOf t j .key)) (r .1) (older j (r .1) (r .2) (r .3 .related) (r .3 .older))) ∙ r .3 .marked in
+              let f = sym (either j (r .1) (r .2) (r .3 .related)) ∙ meets j ek (r .3 .meets) in
+              let q = kept-apart (schemaOf s) (stood s t) (recordOf t j) (recordOf t i) (member-at s t b w keeps kept-part j (r .1) (r .2) z) (member-at s t b w keeps kept-part i a g p) f in
+              absurd (omega (arith, q, key-less t i j (r .3 .related) (r .3 .older)))
+
+      unbeaten : (k : ℕ) → beatenOn s t c k i ≡ false → (j : ℕ) → 1 ≤ j → j ≤ usedAt t → relationAt t j ≡ relationAt t i → labelAt t j < labelAt t i → has keeps (recordOf t j .key) ≡ true
+          → conflictOn (schemaOf s) k (recordOf t j) (recordOf t i) ≡ false
+      unbeaten k e j p q f l h = go (test (conflictOn (schemaOf s) k (recordOf t j) (recordOf t i)))
+        where
+          go : (conflictOn (schemaOf s) k (recordOf t j) (recordOf t i) ≡ true) ⊎ (conflictOn (schemaOf s) k (recordOf t j) (recordOf t i) ≡ false) → conflictOn (schemaOf s) k (recordOf t j) (recordOf t i) ≡ false
+          go (inr z) = z
+          go (inl z) =
+              let y = marked-is c j (has keeps (recordOf t j .key)) p (older j p q f l) ∙ h in
+              clash (by-beaten s t c k i j p q (record { marked = y; related = f; older = l; meets = z })) e
+
+      pub kept-mark : cond (loses s t c m n i) 0 (getD c (i - 1) 0) ≡ keptMark s t i
+      unfolding loses
+      kept-mark = rw (marked-is c i (has (stood s t) (recordOf t i .key)) a itself, itself) (go (test (has (stood s t) (recordOf t i .key))) (test (beatenOn s t c m i)) (test (beatenOn s t c n i)))
+        where
+          go : (has (stood s t) (recordOf t i .key) ≡ true) ⊎ (has (stood s t) (recordOf t i .key) ≡ false)
+              → (beatenOn s t c m i ≡ true) ⊎ (beatenOn s t c m i ≡ false) → (beatenOn s t c n i ≡ true) ⊎ (beatenOn s t c n i ≡ false)
+              → cond (has (stood s t) (recordOf t i .key) && (beatenOn s t c m i || beatenOn s t c n i)) 0 (stoodMark s t i) ≡ keptMark s t i
+          go (inr e) p q = rw (e, kept-none e)
+          go (inl e) (inl p) q = rw (e, p, beaten-dropped m (inl em) p)
+          go (inl e) (inr p) (inl q) = rw (e, p, q, beaten-dropped n (inr en) q)
+          go (inl e) (inr p) (inr q) =
+              let k = kept-one e (λ j x y f l h. or-none _ _ (rw em at (unbeaten m p j x y f l h)) (rw en at (unbeaten n q j x y f l h))) in
+              rw (e, p, q, k)
+
+  -- without keys all that stand are kept
+  pub upto-keyless : (r : ℕ) (c : List ℕ) → maskAt s r 1 ≡ 0 → maskAt s r 2 ≡ 0 → Upto s t (place r 0) c → Upto s t (place (r + 1) 0) c
+  upto-keyless r c e f u = record { done = λ i a g h. go i a g h (tri (relationAt t i) r); rest = λ i a g h. u .rest i a g (omega arith) }
+    where
+      no-key : (m : ℕ) (x y : Rec) → m ≡ 0 → conflictOn (schemaOf s) m x y ≡ false
+      no-key m x y z = unfold conflictOn in rw (eq-eqb m 0 z)
+
+      same-mark : (i : ℕ) → 1 ≤ i → i ≤ usedAt t → relationAt t i ≡ r → stoodMark s t i ≡ keptMark s t i
+      same-mark i a g q = choose (test (has (stood s t) (recordOf t i .key)))
+        where
+          clear : (j : ℕ) → 1 ≤ j → j ≤ usedAt t → Clear i a g j
+          clear j p l = λ d o h. rw (no-key (maskAt s (relationAt t i) 1) (recordOf t j) (recordOf t i) (rw q e), no-key (maskAt s (relationAt t i) 2) (recordOf t j) (recordOf t i) (rw q f))
+
+          choose : (has (stood s t) (recordOf t i .key) ≡ true) ⊎ (has (stood s t) (recordOf t i .key) ≡ false) → stoodMark s t i ≡ keptMark s t i
+          choose (inl z) = rw (z, kept-one i a g z clear)
+          choose (inr z) = rw (z, kept-none i a g z)
+
+      go : (i : ℕ) (a : 1 ≤ i) (g : i ≤ usedAt t) → place (relationAt t i) (labelAt t i) < place (r + 1) 0 → Tri (relationAt t i) r → getD c (i - 1) 0 ≡ keptMark s t i
+      go i a g h (low q) = u .done i a g (omega (arith, labels s t b w i a g .1))
+      go i a g h (same q) = u .rest i a g (omega (arith, q)) ∙ same-mark i a g q
+      go i a g h (high q) = absurd (omega arith)
+
+  -- before the first relation, and after the last
+  pub upto-none : (k : List ℕ) → Marked t (stood s t) k → (n : ℕ) (c : List ℕ) → n ≡ usedAt t → Copied k n c → Upto s t (place 1 0) c
+  upto-none k mk n c e h =
+      record {
+        done = λ i a g l. absurd (omega (arith, own-relation s t b w i a g));
+        rest = λ i a g l. copied i a g;
+      }
+    where
+      copied : (i : ℕ) → 1 ≤ i → i ≤ usedAt t → getD c (i - 1) 0 ≡ stoodMark s t i
+      copied i a g =
+          let q : i - 1 + 1 ≡ i = omega arith in
+          (rw q at (h .at (i - 1) (omega arith))) ∙ ap (λ (x : Bool). cond x 1 0) (marked-is k i (has (stood s t) (recordOf t i .key)) a (mk .at i a g))
+
+  pub upto-all : (n : ℕ) (c : List ℕ) → mostRelations ≤ n → Upto s t (place (n + 1) 0) c → Marked t (kept (schemaOf s) (stood s t)) c
+  upto-all n c h u = record { at = λ i a g. u .done i a g (omega (arith, own-relation s t b w i a g, labels s t b w i a g .1)) }

@@ -3,14 +3,16 @@
 use Prim.Native.Nat.{ℕ, suc, _+_, _-_, _≤_, _<_}
 use mathlib.Core.Path.{_≡_, refl, sym, _∙_, ap}
 use mathlib.Core.Logic.{_⊎_, inl, inr}
-use mathlib.Core.Bool.{true, false, cond, _&&_}
+use mathlib.Core.Bool.{Bool, true, false, cond, _&&_, _||_}
 use mathlib.Core.List.{List}
 use native.Mathlib.Omega.{arith}
+use mir.Syntax.{w16, w64}
+use mir.Val.{Fits}
 use lib.Dec.{eqb, ltb}
 use lib.ListN.{length, getD, set}
 use lib.Seq.{getD-set-same, getD-set-other}
 use borrow.Author.Tests.{eqb-true, eqb-false, eq-eqb, ne-eqb, ltb-true, lt-ltb}
-use Rattle.crdt.proofs.Tests.{Tri, low, same, high, tri, test, clash, and-left, and-right, and-both}
+use Rattle.crdt.proofs.Tests.{Tri, low, same, high, tri, test, clash, or-false, and-left, and-right, and-both}
 use Rattle.model.specs.Layout.{usedAt, relationAt, labelAt}
 use Rattle.model.specs.Schemas.{broken, schemaOf}
 use Rattle.model.specs.Records.{relation}
@@ -20,10 +22,11 @@ use Rattle.model.specs.Shown.{conflictOn}
 use Rattle.wellformed.proofs.ListRanges.{any-some}
 use Rattle.wellformed.proofs.Ranges.{any-at}
 use Rattle.marks.specs.Marks.{isMarked}
+use Rattle.marks.proofs.Marks.{marked-here}
 use Rattle.marks.proofs.Chain.{On, one-label}
-use Rattle.list_keys.specs.Buckets.{buckets, bucketAt, keyed, beats, beatenOn, losesOn, Older, Buckets}
+use Rattle.list_keys.specs.Buckets.{buckets, bucketAt, slotAt, keyed, beats, beatenOn, loses, Older, Buckets}
 use Rattle.list_conflicts.proofs.Keys.{relation-own}
-use Rattle.list_keys.proofs.Digests.{conflict-left, conflict-right, conflict-bucket}
+use Rattle.list_keys.proofs.Digests.{bucket-below, conflict-left, conflict-right, conflict-bucket}
 
 pub zero-or : (n : ℕ) → (n ≡ 0) ⊎ (n ≡ 0 → ⊥)
 zero-or n = go (test (eqb n 0))
@@ -46,7 +49,7 @@ fall-in t i n = rw (ne-eqb i 0 n)
 
 -- what it is to beat a record on a key
 pub record Beating (s t k : List ℕ) (m i j : ℕ) : Type 0 where
-  pub stands : isMarked k j ≡ true
+  pub marked : isMarked k j ≡ true
   pub related : relationAt t j ≡ relationAt t i
   pub older : labelAt t j < labelAt t i
   pub meets : conflictOn (schemaOf s) m (recordOf t j) (recordOf t i) ≡ true
@@ -62,7 +65,7 @@ module _ (s t k : List ℕ) (m i j : ℕ) where
       let h1 = and-left (a && b && c) d h in
       let h2 = and-left (a && b) c h1 in
       record {
-        stands = and-left a b h2;
+        marked = and-left a b h2;
         related = eqb-true (relationAt t j) (relationAt t i) (and-right a b h2);
         older = ltb-true (labelAt t j) (labelAt t i) (and-right (a && b) c h1);
         meets = and-right (a && b && c) d h;
@@ -76,7 +79,7 @@ module _ (s t k : List ℕ) (m i j : ℕ) where
       let c = ltb (labelAt t j) (labelAt t i) in
       let d = conflictOn (schemaOf s) m (recordOf t j) (recordOf t i) in
       and-both (a && b && c) d
-      (and-both (a && b) c (and-both a b (h .stands) (eq-eqb (relationAt t j) (relationAt t i) (h .related))) (lt-ltb (labelAt t j) (labelAt t i) (h .older)))
+      (and-both (a && b) c (and-both a b (h .marked) (eq-eqb (relationAt t j) (relationAt t i) (h .related))) (lt-ltb (labelAt t j) (labelAt t i) (h .older)))
       (h .meets)
 
 pub beaten-by : (s t k : List ℕ) (m i : ℕ) → beatenOn s t k m i ≡ true → (j : ℕ) × (1 ≤ j) × (j ≤ usedAt t) × Beating s t k m i j
@@ -158,7 +161,7 @@ module _ (s t k : List ℕ) (b : broken s ≡ false) (w : wellFormed s t ≡ tru
       walk-beaten f =
           let o = walk-in .0 in
           sym (by-beaten s t k m i p (o .least) (o .within)
-          (record { stands = and-left (isMarked k p) (conflictOn (schemaOf s) m (recordOf t p) (recordOf t p)) (o .whole); related = o .related; older = o .below; meets = f }))
+          (record { marked = and-left (isMarked k p) (conflictOn (schemaOf s) m (recordOf t p) (recordOf t p)) (o .whole); related = o .related; older = o .below; meets = f }))
 
   module _ (a : 1 ≤ i) (l : i ≤ usedAt t) where
     -- one that conflicts with record i is in its bucket
@@ -170,7 +173,7 @@ module _ (s t k : List ℕ) (b : broken s ≡ false) (w : wellFormed s t ≡ tru
           within = y;
           related = h .related;
           below = h .older;
-          whole = and-both (isMarked k j) (conflictOn (schemaOf s) m (recordOf t j) (recordOf t j)) (h .stands) (conflict-left (schemaOf s) m (recordOf t j) (recordOf t i) (h .meets));
+          whole = and-both (isMarked k j) (conflictOn (schemaOf s) m (recordOf t j) (recordOf t j)) (h .marked) (conflict-left (schemaOf s) m (recordOf t j) (recordOf t i) (h .meets));
         }
 
     pub walk-unbeaten : (p : ℕ) → Walk s t k m i p → p ≡ 0 → false ≡ beatenOn s t k m i
@@ -185,27 +188,19 @@ module _ (s t k : List ℕ) (b : broken s ≡ false) (w : wellFormed s t ≡ tru
             clash (r .3 .meets) (v .passed j (beating-older j (r .1) (r .2) (r .3)) x (inl z))
 
     -- one that cannot conflict is not beaten
-    pub not-beaten : keyed s t k m i ≡ false → losesOn s t k m i ≡ false
-    unfolding keyed losesOn
-    not-beaten e = go (test (losesOn s t k m i))
+    pub not-beaten : conflictOn (schemaOf s) m (recordOf t i) (recordOf t i) ≡ false → false ≡ beatenOn s t k m i
+    not-beaten e = sym (go (test (beatenOn s t k m i)))
       where
-        go : (losesOn s t k m i ≡ true) ⊎ (losesOn s t k m i ≡ false) → losesOn s t k m i ≡ false
+        go : (beatenOn s t k m i ≡ true) ⊎ (beatenOn s t k m i ≡ false) → beatenOn s t k m i ≡ false
         go (inr f) = f
         go (inl f) =
-            let r = beaten-by s t k m i (and-right (isMarked k i) (beatenOn s t k m i) f) in
+            let r = beaten-by s t k m i f in
             let q : relation (recordOf t (r .0)) ≡ relation (recordOf t i) = relation-own s t b w (r .0) (r .1) (r .2) ∙ r .3 .related ∙ sym (relation-own s t b w i a l) in
-            clash
-            (and-both (isMarked k i) (conflictOn (schemaOf s) m (recordOf t i) (recordOf t i)) (and-left (isMarked k i) (beatenOn s t k m i) f)
-            (conflict-right (schemaOf s) m (recordOf t (r .0)) (recordOf t i) (r .3 .meets) q))
-            e
+            clash (conflict-right (schemaOf s) m (recordOf t (r .0)) (recordOf t i) (r .3 .meets) q) e
 
-pub keyed-loses : (s t k : List ℕ) (m i : ℕ) (a c d : List ℕ) → keyed s t k m i ≡ true → a ≡ cond (beatenOn s t k m i) c d → a ≡ cond (losesOn s t k m i) c d
-unfolding keyed losesOn
-keyed-loses s t k m i a c d e f = rw (and-left (isMarked k i) (conflictOn (schemaOf s) m (recordOf t i) (recordOf t i)) e) f
-
--- the same records, by another bound of their labels
-module _ (s t k : List ℕ) (m r l n : ℕ) (to : (j : ℕ) → Older s t k m r l j → Older s t k m r n j) (back : (j : ℕ) → Older s t k m r n j → Older s t k m r l j) where
-  pub buckets-same : (h g : List ℕ) → Buckets s t k m r l h g → Buckets s t k m r n h g
+-- the same records, by another bound of their labels and other marks
+module _ (s t k k′ : List ℕ) (m r l n : ℕ) (to : (j : ℕ) → Older s t k m r l j → Older s t k′ m r n j) (back : (j : ℕ) → Older s t k′ m r n j → Older s t k m r l j) where
+  pub buckets-same : (h g : List ℕ) → Buckets s t k m r l h g → Buckets s t k′ m r n h g
   buckets-same h g u =
       record {
         head-in = λ x e. let q = u .head-in x e in (to _ (q .0), q .1);
@@ -236,8 +231,8 @@ module _ (s t k : List ℕ) (b : broken s ≡ false) (w : wellFormed s t ≡ tru
       go (same q) = inl (one-label s t b w r j i (record { from-one = o .least; within = o .within; related = o .related }) (record { from-one = a; within = l; related = refl }) q)
       go (high q) = absurd (omega (arith, o .below))
 
-  pub buckets-skip : keyed s t k m i ≡ false → (h g : List ℕ) → Before-it s t k m i h g → Buckets s t k m r (labelAt t i + 1) h g
-  buckets-skip e h g u = buckets-same s t k m r (labelAt t i) (labelAt t i + 1) still back h g u
+  buckets-skip : keyed s t k m i ≡ false → (h g : List ℕ) → Before-it s t k m i h g → Buckets s t k m r (labelAt t i + 1) h g
+  buckets-skip e h g u = buckets-same s t k k m r (labelAt t i) (labelAt t i + 1) still back h g u
     where
       back : (j : ℕ) → New j → Old j
       back j o = go (split j o)
@@ -318,6 +313,131 @@ module _ (s t k : List ℕ) (b : broken s ≡ false) (w : wellFormed s t ≡ tru
         go (inr d) (inl v) = absurd (omega (arith, d .below, ap (labelAt t) v))
         go (inr d) (inr v) = rw (link-other c d) (u .link-all c j d v z n)
 
-    pub buckets-link : (h′ g′ : List ℕ) → h′ ≡ heads → g′ ≡ links → Buckets s t k m r (labelAt t i + 1) h′ g′
+    buckets-link : (h′ g′ : List ℕ) → h′ ≡ heads → g′ ≡ links → Buckets s t k m r (labelAt t i + 1) h′ g′
     buckets-link h′ g′ y z =
         rw (y, z) (record { head-in = linked-head-in; head-all = linked-head-all; link-in = linked-link-in; link-all = linked-link-all })
+
+-- a record that is not marked, or that is dropped, is in no bucket
+pub buckets-unmarked : (s t k : List ℕ) (b : broken s ≡ false) (w : wellFormed s t ≡ true) (m i : ℕ) → 1 ≤ i → i ≤ usedAt t → isMarked k i ≡ false → (h g : List ℕ)
+    → Before-it s t k m i h g → Buckets s t k m (relationAt t i) (labelAt t i + 1) h g
+unfolding keyed
+buckets-unmarked s t k b w m i a l e h g u = buckets-skip s t k b w m i a l (rw e) h g u
+
+module _ (s t k : List ℕ) (b : broken s ≡ false) (w : wellFormed s t ≡ true) (m i : ℕ) (a : 1 ≤ i) (l : i ≤ usedAt t) (n : i ≤ length k) where
+  abbrev dropped : List ℕ
+  dropped = set k (i - 1) 0
+
+  dropped-own : isMarked dropped i ≡ false
+  dropped-own = sym (marked-here dropped i a) ∙ ap (λ (v : ℕ). eqb v 1) (getD-set-same k (i - 1) 0 0 (omega arith))
+
+  dropped-other : (j : ℕ) → 1 ≤ j → (j ≡ i → ⊥) → isMarked dropped j ≡ isMarked k j
+  dropped-other j c z = sym (marked-here dropped j c) ∙ ap (λ (v : ℕ). eqb v 1) (getD-set-other k (i - 1) (j - 1) 0 0 (λ e. z (omega arith))) ∙ marked-here k j c
+
+  pub buckets-drop : (k′ : List ℕ) → k′ ≡ dropped → (h g : List ℕ) → Before-it s t k m i h g → Buckets s t k′ m (relationAt t i) (labelAt t i + 1) h g
+  unfolding keyed
+  buckets-drop k′ e h g u =
+      rw e
+      (buckets-unmarked s t dropped b w m i a l dropped-own h g
+      (buckets-same s t k dropped m (relationAt t i) (labelAt t i) (labelAt t i)
+      (λ j o. record { least = o .least; within = o .within; related = o .related; below = o .below; whole = rw (dropped-other j (o .least) (apart j (o .below))) (o .whole) })
+      (λ j o. record { least = o .least; within = o .within; related = o .related; below = o .below; whole = rw (dropped-other j (o .least) (apart j (o .below))) at (o .whole) })
+      h g u))
+    where
+      apart : (j : ℕ) → labelAt t j < labelAt t i → j ≡ i → ⊥
+      apart j o e′ = omega (arith, ap (labelAt t) e′)
+
+-- slots
+module _ (s t : List ℕ) (m i : ℕ) (x : Bool) (e : x ≡ conflictOn (schemaOf s) m (recordOf t i) (recordOf t i)) where
+  pub slot-empty : x ≡ false → buckets ≡ slotAt s t m i
+  unfolding slotAt
+  slot-empty f = rw (sym e ∙ f)
+
+  pub slot-own : x ≡ true → (y : ℕ) → y ≡ bucketAt s t m i → y ≡ slotAt s t m i
+  unfolding slotAt
+  slot-own f y z = rw (sym e ∙ f) z
+
+module _ (s t : List ℕ) (m i x : ℕ) (e : x ≡ slotAt s t m i) where
+  pub slot-none : x ≡ buckets → conflictOn (schemaOf s) m (recordOf t i) (recordOf t i) ≡ false
+  unfolding slotAt
+  slot-none z = go (test (conflictOn (schemaOf s) m (recordOf t i) (recordOf t i)))
+    where
+      go : (conflictOn (schemaOf s) m (recordOf t i) (recordOf t i) ≡ true) ⊎ (conflictOn (schemaOf s) m (recordOf t i) (recordOf t i) ≡ false) → conflictOn (schemaOf s) m (recordOf t i) (recordOf t i) ≡ false
+      go (inl f) = let q : x ≡ bucketAt s t m i = rw f at e in absurd (omega (arith, bucket-below s t m i))
+      go (inr f) = f
+
+  pub slot-some : (x ≡ buckets → ⊥) → (x ≡ bucketAt s t m i) × (conflictOn (schemaOf s) m (recordOf t i) (recordOf t i) ≡ true)
+  unfolding slotAt
+  slot-some z = go (test (conflictOn (schemaOf s) m (recordOf t i) (recordOf t i)))
+    where
+      go : (conflictOn (schemaOf s) m (recordOf t i) (recordOf t i) ≡ true) ⊎ (conflictOn (schemaOf s) m (recordOf t i) (recordOf t i) ≡ false)
+          → (x ≡ bucketAt s t m i) × (conflictOn (schemaOf s) m (recordOf t i) (recordOf t i) ≡ true)
+      go (inl f) = (rw f at e, f)
+      go (inr f) = absurd (z (rw f at e))
+
+  pub slot-most : x ≤ buckets
+  unfolding slotAt
+  slot-most = go (test (conflictOn (schemaOf s) m (recordOf t i) (recordOf t i)))
+    where
+      go : (conflictOn (schemaOf s) m (recordOf t i) (recordOf t i) ≡ true) ⊎ (conflictOn (schemaOf s) m (recordOf t i) (recordOf t i) ≡ false) → x ≤ buckets
+      go (inl f) = let q : x ≡ bucketAt s t m i = rw f at e in omega (arith, bucket-below s t m i)
+      go (inr f) = let q : x ≡ buckets = rw f at e in omega arith
+
+-- an index of 16 bits has 64
+pub wider : (n : ℕ) → Fits w16 n → Fits w64 n
+wider n h = record { fits = omega (arith, h .fits) }
+
+-- beaten on one of two keys
+pub either-of : (x y z u : Bool) → z ≡ x → u ≡ y → (z || u) ≡ (x || y)
+either-of x y z u e f = cc (e, f)
+
+-- marks without record i if it loses
+module _ (s t k : List ℕ) (m n i : ℕ) (c d : List ℕ) where
+  pub loses-unmarked : isMarked k i ≡ false → c ≡ cond (loses s t k m n i) d c
+  unfolding loses
+  loses-unmarked e = rw e
+
+  pub loses-marked : isMarked k i ≡ true → (z : Bool) → z ≡ (beatenOn s t k m i || beatenOn s t k n i) → (c′ : List ℕ) → c′ ≡ cond z d c → c′ ≡ cond (loses s t k m n i) d c
+  unfolding loses
+  loses-marked y z e c′ f = rw (y, sym e) f
+
+-- what a test chooses
+pub chosen : (z : Bool) (h h′ : List ℕ) → z ≡ true → h ≡ cond z h h′
+chosen z h h′ e = rw e
+
+pub left-out : (z : Bool) (h h′ : List ℕ) → z ≡ false → h′ ≡ cond z h h′
+left-out z h h′ e = rw e
+
+-- a record that is put into its bucket has one
+pub has-bucket : (z : Bool) (x n : ℕ) → (z || eqb x buckets) ≡ false → x ≤ buckets → buckets ≤ n → x < n
+has-bucket z x n e l m = let f = eqb-false x buckets (or-false z (eqb x buckets) e .1) in go (tri x buckets) f
+  where
+    go : Tri x buckets → (x ≡ buckets → ⊥) → x < n
+    go (low p) f = omega arith
+    go (same p) f = absurd (f p)
+    go (high p) f = absurd (omega arith)
+
+-- a record that is kept, put into its slot
+buckets-slot : (s t k : List ℕ) (b : broken s ≡ false) (w : wellFormed s t ≡ true) (m i : ℕ) → 1 ≤ i → i ≤ usedAt t → isMarked k i ≡ true → (h g : List ℕ) → Before-it s t k m i h g
+    → (x : ℕ) → x ≡ slotAt s t m i → buckets ≤ length h → i ≤ length g → (h′ g′ : List ℕ) → h′ ≡ cond (eqb x buckets) h (set h x i) → g′ ≡ cond (eqb x buckets) g (set g (i - 1) (getD h x 0))
+    → Buckets s t k m (relationAt t i) (labelAt t i + 1) h′ g′
+unfolding keyed
+buckets-slot s t k b w m i a l y h g u x e p q h′ g′ c d = go (test (eqb x buckets))
+  where
+    go : (eqb x buckets ≡ true) ⊎ (eqb x buckets ≡ false) → Buckets s t k m (relationAt t i) (labelAt t i + 1) h′ g′
+    go (inl z) =
+        let c′ : h′ ≡ h = rw z at c in
+        let d′ : g′ ≡ g = rw z at d in
+        rw (c′, d′) (buckets-skip s t k b w m i a l (rw (y, slot-none s t m i x e (eqb-true x buckets z))) h g u)
+    go (inr z) =
+        let r = slot-some s t m i x e (eqb-false x buckets z) in
+        let c′ : h′ ≡ set h x i = rw z at c in
+        let d′ : g′ ≡ set g (i - 1) (getD h x 0) = rw z at d in
+        buckets-link s t k b w m i a l h g u (rw (y, r .1)) x (r .0) (omega (arith, bucket-below s t m i, r .0)) q h′ g′ c′ d′
+
+-- a marked record dropped if it is beaten, and otherwise put into its slot
+pub buckets-pass : (s t k : List ℕ) (b : broken s ≡ false) (w : wellFormed s t ≡ true) (m i : ℕ) → 1 ≤ i → i ≤ usedAt t → i ≤ length k → isMarked k i ≡ true → (h g : List ℕ) → Before-it s t k m i h g
+    → (x : ℕ) → x ≡ slotAt s t m i → buckets ≤ length h → i ≤ length g → (z : Bool) (k′ h′ g′ : List ℕ) → k′ ≡ cond z (set k (i - 1) 0) k
+    → h′ ≡ cond (z || eqb x buckets) h (set h x i) → g′ ≡ cond (z || eqb x buckets) g (set g (i - 1) (getD h x 0))
+    → Buckets s t k′ m (relationAt t i) (labelAt t i + 1) h′ g′
+buckets-pass s t k b w m i a l n y h g u x e p q true k′ h′ g′ f c d = rw (c, d) (buckets-drop s t k b w m i a l n k′ f h g u)
+buckets-pass s t k b w m i a l n y h g u x e p q false k′ h′ g′ f c d = rw f (buckets-slot s t k b w m i a l y h g u x e p q h′ g′ c d)

@@ -47,7 +47,7 @@ unfolding digestFrom
 digest-below zero d m j vs h = h
 digest-below (suc n) d m j vs h = digest-below n (mixed d m (getD vs j 0)) (m / 2) (suc j) vs (mixed-below d m (getD vs j 0) h)
 
-bucket-below : (s t : List ℕ) (m i : ℕ) → bucketAt s t m i < buckets
+pub bucket-below : (s t : List ℕ) (m i : ℕ) → bucketAt s t m i < buckets
 unfolding bucketAt digestOf
 bucket-below s t m i = let h = digest-below (fieldCount s (relationAt t i)) 0 m 0 (valuesAt t i) (omega arith) in omega arith
 

@@ -1,5 +1,5 @@
 pub mod Digests
 pub mod Listed
 pub mod Bucketed
-pub mod Passing
 pub mod Beaten
+pub mod Passing

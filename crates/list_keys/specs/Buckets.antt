@@ -1,8 +1,8 @@
--- Buckets of records by a digest of their keys. s is the schema, t the table, k the marks of the standing records, m a key's mask.
+-- Buckets of records by a digest of their keys. s is the schema, t the table, k the marks, m a key's mask.
 -- Assumes nothing.
 use Prim.Native.Nat.{ℕ, zero, suc, _+_, _*_, _-_, _/_, _%_, _≤_, _<_}
 use mathlib.Core.Path.{_≡_}
-use mathlib.Core.Bool.{Bool, true, cond, _&&_}
+use mathlib.Core.Bool.{Bool, true, cond, _&&_, _||_}
 use mathlib.Core.List.{List}
 use lib.Dec.{eqb, ltb}
 use lib.ListN.{getD}
@@ -47,11 +47,15 @@ digestOf s r m vs = digestFrom 0 m 0 (fieldCount s r) vs
 unfoldable pub bucketAt : List ℕ → List ℕ → ℕ → ℕ → ℕ
 bucketAt s t m i = digestOf s (relationAt t i) m (valuesAt t i) / share
 
--- Record i stands, and no reference of its key is empty: it conflicts with itself.
+-- The same, or the number of buckets where a reference of its key is empty: it does not conflict with itself.
+unfoldable pub slotAt : List ℕ → List ℕ → ℕ → ℕ → ℕ
+slotAt s t m i = cond (conflictOn (schemaOf s) m (recordOf t i) (recordOf t i)) (bucketAt s t m i) buckets
+
+-- Record i is marked, and no reference of its key is empty: it conflicts with itself.
 unfoldable pub keyed : List ℕ → List ℕ → List ℕ → ℕ → ℕ → Bool
 keyed s t k m i = isMarked k i && conflictOn (schemaOf s) m (recordOf t i) (recordOf t i)
 
--- Record j stands, is older than record i and of its relation, and conflicts with it on the key.
+-- Record j is marked, is older than record i and of its relation, and conflicts with it on the key.
 unfoldable pub beats : List ℕ → List ℕ → List ℕ → ℕ → ℕ → ℕ → Bool
 beats s t k m i j =
     isMarked k j && eqb (relationAt t j) (relationAt t i) && ltb (labelAt t j) (labelAt t i)
@@ -60,9 +64,9 @@ beats s t k m i j =
 unfoldable pub beatenOn : List ℕ → List ℕ → List ℕ → ℕ → ℕ → Bool
 beatenOn s t k m i = any (usedAt t) (beats s t k m i)
 
--- Record i stands and is beaten on the key.
-unfoldable pub losesOn : List ℕ → List ℕ → List ℕ → ℕ → ℕ → Bool
-losesOn s t k m i = isMarked k i && beatenOn s t k m i
+-- Record i is marked and beaten on one of two keys.
+unfoldable pub loses : List ℕ → List ℕ → List ℕ → ℕ → ℕ → ℕ → Bool
+loses s t k m n i = isMarked k i && (beatenOn s t k m i || beatenOn s t k n i)
 
 -- Record j is one of relation r with a label below l, and can conflict on the key.
 pub record Older (s t k : List ℕ) (m r l j : ℕ) : Type 0 where

@@ -1,24 +1,31 @@
--- Marks before and after a pass over the records of a relation. s is the schema, t the table, k the marks of the standing records.
+-- Marks in step 3. s is the schema, t the table.
 -- Assumes nothing.
 use Prim.Native.Nat.{ℕ, _+_, _-_, _≤_, _<_}
 use mathlib.Core.Path.{_≡_}
 use mathlib.Core.Bool.{cond}
 use mathlib.Core.List.{List}
 use lib.ListN.{getD}
-use Rattle.model.specs.Layout.{maskAt, usedAt, relationAt}
+use Rattle.model.specs.Layout.{usedAt, relationAt, labelAt}
+use Rattle.model.specs.Schemas.{schemaOf}
+use Rattle.model.specs.Records.{Rec, place, has, inOrder}
+use Rattle.model.specs.Tables.{recordOf, decode}
+use Rattle.model.specs.Shown.{standing, kept}
 use Rattle.marks.specs.Marks.{isMarked}
-use Rattle.list_keys.specs.Buckets.{losesOn}
 
--- Marks a, and b after the pass for a key's mask m: the records of relation r that lose on it are dropped.
-pub record Dropped (s t k : List ℕ) (r m : ℕ) (a b : List ℕ) : Type 0 where
-  pub own : (i : ℕ) → 1 ≤ i → i ≤ usedAt t → relationAt t i ≡ r → getD b (i - 1) 0 ≡ cond (losesOn s t k m i) 0 (getD a (i - 1) 0)
-  pub others : (i : ℕ) → 1 ≤ i → i ≤ usedAt t → (relationAt t i ≡ r → ⊥) → getD b (i - 1) 0 ≡ getD a (i - 1) 0
+-- The standing records, and the mark of record i among them and among those that step 3 keeps.
+abbrev pub stood : List ℕ → List ℕ → List Rec
+stood s t = standing (schemaOf s) (inOrder (decode t .records))
 
--- The same after the passes for both keys of relation r.
-pub record Passed (s t k : List ℕ) (r : ℕ) (a b : List ℕ) : Type 0 where
-  pub own : (i : ℕ) → 1 ≤ i → i ≤ usedAt t → relationAt t i ≡ r
-      → getD b (i - 1) 0 ≡ cond (losesOn s t k (maskAt s r 2) i) 0 (cond (losesOn s t k (maskAt s r 1) i) 0 (getD a (i - 1) 0))
-  pub others : (i : ℕ) → 1 ≤ i → i ≤ usedAt t → (relationAt t i ≡ r → ⊥) → getD b (i - 1) 0 ≡ getD a (i - 1) 0
+abbrev pub stoodMark : List ℕ → List ℕ → ℕ → ℕ
+stoodMark s t i = cond (has (stood s t) (recordOf t i .key)) 1 0
+
+abbrev pub keptMark : List ℕ → List ℕ → ℕ → ℕ
+keptMark s t i = cond (has (kept (schemaOf s) (stood s t)) (recordOf t i .key)) 1 0
+
+-- Marks a after step 3 of the records with keys below k: these have the mark of those kept, and the others that of the standing ones.
+pub record Upto (s t : List ℕ) (k : ℕ) (a : List ℕ) : Type 0 where
+  pub done : (i : ℕ) → 1 ≤ i → i ≤ usedAt t → place (relationAt t i) (labelAt t i) < k → getD a (i - 1) 0 ≡ keptMark s t i
+  pub rest : (i : ℕ) → 1 ≤ i → i ≤ usedAt t → k ≤ place (relationAt t i) (labelAt t i) → getD a (i - 1) 0 ≡ stoodMark s t i
 
 -- The first n marks, each 1 or 0.
 pub record Copied (k : List ℕ) (n : ℕ) (a : List ℕ) : Type 0 where

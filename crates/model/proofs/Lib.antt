@@ -4,4 +4,5 @@ pub mod Runs
 pub mod Meaning
 pub mod Changed
 pub mod Copies
+pub mod Losers
 pub mod Book

@@ -19,7 +19,7 @@ use Rattle.model.specs.Schemas.{isReference, blockRule, emptyBlock, brok
 use Rattle.model.specs.Records.{has, own, at, insert, inOrder, join, distinct, leastAbove, positionFrom}
 use Rattle.model.specs.Tables.{recordOf, decode, follower, encodeRecord, encodeRecords, encodeHeader, encode, contents}
 use Rattle.model.specs.WellFormed.{headerRules, firstsRule, emptyAbove, fieldRule, recordRules, countersRule, chainFrom, chainOf, chainStep, rises, chainsRise, onChain, restZero, wellFormed}
-use Rattle.model.specs.Shown.{described, stamped, complete, leads, targets, references, equalOn, conflictOn, conflict, live, reached, hop, standing, beaten, kept, grounded, settled, shown}
+use Rattle.model.specs.Shown.{described, stamped, complete, leads, targets, references, equalOn, conflictOn, conflict, live, reached, hop, standing, beaten, keptAfter, kept, grounded, settled, shown}
 use Rattle.model.specs.Merge.{joinedWith, mergedRecords, merged, tooMany}
 use Rattle.model.specs.Edits.{deltaOf, editedBy, newLabel, flagOf, flagOnly, odd, redoing, spent, supported, valuesRule, newRecord, insertion, recordAt, registerAt, withRegister, leading, updateRedoes, updateConflict, update, deletionRedoes, deletion}
 use Rattle.model.specs.Calls.{schemaLength, tableLength, deltaLength, marksLength, badIndex, schemaNumber, tableNumber, startNumber, startTable, valuesNumber, valuesPart, mergeNumber, mergeTable, marksOf, marksNumber, marksCount, marksMarks, marked, placeKey, walkNumber, walkGiven, walkPlace, editNumber, editTable, editDelta, insertionOf, insertionNumber, insertionLabel, insertionTable, insertionDelta, updateOf, updateNumber, updateTable, updateDelta, deletionOf, deletionNumber, deletionTable, deletionDelta, entryAt, walked, tableWalked, shownList}
@@ -58,7 +58,7 @@ associative-means s a b c (inr (p, q)) = (λ y z. left p y z, λ y z. right q y 
 pub laws-apply : Demand3
     → (contents (mergeTable herd ofGroup ofCow) ≡ contents (mergeTable herd ofCow ofGroup)) × (mergeNumber herd ofGroups ofGroup ≡ 11)
     × Associative herd ofGroup ofCow ofGroups × (mergeTable herd ofCow ofCow ≡ ofCow)
-unfolding ofGroup ofCow ofGroups ones onesIn isLabel labelWithin deleted redone upTo joinReg joinRegs joinCell joinOpt word block relations fieldCount kindAt maskAt base capacityOf replicaAt clockAt usedAt firstAt nextAt relationAt labelAt flagAt valueAt stampAt each any from listed only some-of all-of times lowest blockRule emptyBlock broken relationOf schemaOf relationNumbered has own at insert inOrder join distinct leastAbove positionFrom recordOf decode follower encodeRecord encodeRecords encodeHeader encode contents headerRules firstsRule emptyAbove fieldRule recordRules countersRule chainFrom chainOf chainStep rises chainsRise onChain restZero wellFormed described stamped complete leads targets references equalOn conflictOn conflict live reached hop standing beaten kept grounded settled shown joinedWith mergedRecords merged tooMany deltaOf editedBy newLabel flagOf flagOnly odd redoing spent supported valuesRule newRecord insertion recordAt registerAt withRegister leading updateRedoes updateConflict update deletionRedoes deletion schemaLength tableLength deltaLength marksLength badIndex schemaNumber tableNumber startNumber startTable valuesNumber valuesPart mergeNumber mergeTable marksOf marksNumber marksCount marksMarks marked placeKey walkNumber walkGiven walkPlace editNumber editTable editDelta insertionOf insertionNumber insertionLabel insertionTable insertionDelta updateOf updateNumber updateTable updateDelta deletionOf deletionNumber deletionTable deletionDelta entryAt walked tableWalked shownList afterCall next history begun pad blockOf herd header row sameWords sameEntries answerOf answers blanks other calls expected tookAtEnd sameRegs sameRecs within listedAtEnd agree runs crossing crosses chainSchema hops
+unfolding ofGroup ofCow ofGroups ones onesIn isLabel labelWithin deleted redone upTo joinReg joinRegs joinCell joinOpt word block relations fieldCount kindAt maskAt base capacityOf replicaAt clockAt usedAt firstAt nextAt relationAt labelAt flagAt valueAt stampAt each any from listed only some-of all-of times lowest blockRule emptyBlock broken relationOf schemaOf relationNumbered has own at insert inOrder join distinct leastAbove positionFrom recordOf decode follower encodeRecord encodeRecords encodeHeader encode contents headerRules firstsRule emptyAbove fieldRule recordRules countersRule chainFrom chainOf chainStep rises chainsRise onChain restZero wellFormed described stamped complete leads targets references equalOn conflictOn conflict live reached hop standing beaten keptAfter kept grounded settled shown joinedWith mergedRecords merged tooMany deltaOf editedBy newLabel flagOf flagOnly odd redoing spent supported valuesRule newRecord insertion recordAt registerAt withRegister leading updateRedoes updateConflict update deletionRedoes deletion schemaLength tableLength deltaLength marksLength badIndex schemaNumber tableNumber startNumber startTable valuesNumber valuesPart mergeNumber mergeTable marksOf marksNumber marksCount marksMarks marked placeKey walkNumber walkGiven walkPlace editNumber editTable editDelta insertionOf insertionNumber insertionLabel insertionTable insertionDelta updateOf updateNumber updateTable updateDelta deletionOf deletionNumber deletionTable deletionDelta entryAt walked tableWalked shownList afterCall next history begun pad blockOf herd header row sameWords sameEntries answerOf answers blanks other calls expected tookAtEnd sameRegs sameRecs within listedAtEnd agree runs crossing crosses chainSchema hops
 laws-apply d = (
   commutative-means herd ofGroup ofCow (d .commutative herd ofGroup ofCow refl refl refl) .0 refl .1,
   commutative-means herd ofGroup ofGroups (d .commutative herd ofGroup ofGroups refl refl refl) .1 refl,
@@ -80,7 +80,7 @@ converged-means s m c i j e = c .agree i j e
 
 -- "no key free of empty references occurs twice" rules out two groups of one name.
 alike : Apart herd 1 1 (entry twoAlike 0) (entry twoAlike 1) → ⊥
-unfolding ofGroup ofCow ofGroups ones onesIn isLabel labelWithin deleted redone upTo joinReg joinRegs joinCell joinOpt word block relations fieldCount kindAt maskAt base capacityOf replicaAt clockAt usedAt firstAt nextAt relationAt labelAt flagAt valueAt stampAt each any from listed only some-of all-of times lowest blockRule emptyBlock broken relationOf schemaOf relationNumbered has own at insert inOrder join distinct leastAbove positionFrom recordOf decode follower encodeRecord encodeRecords encodeHeader encode contents headerRules firstsRule emptyAbove fieldRule recordRules countersRule chainFrom chainOf chainStep rises chainsRise onChain restZero wellFormed described stamped complete leads targets references equalOn conflictOn conflict live reached hop standing beaten kept grounded settled shown joinedWith mergedRecords merged tooMany deltaOf editedBy newLabel flagOf flagOnly odd redoing spent supported valuesRule newRecord insertion recordAt registerAt withRegister leading updateRedoes updateConflict update deletionRedoes deletion schemaLength tableLength deltaLength marksLength badIndex schemaNumber tableNumber startNumber startTable valuesNumber valuesPart mergeNumber mergeTable marksOf marksNumber marksCount marksMarks marked placeKey walkNumber walkGiven walkPlace editNumber editTable editDelta insertionOf insertionNumber insertionLabel insertionTable insertionDelta updateOf updateNumber updateTable updateDelta deletionOf deletionNumber deletionTable deletionDelta entryAt walked tableWalked shownList afterCall next history begun pad blockOf herd header row sameWords sameEntries answerOf answers blanks other calls expected tookAtEnd sameRegs sameRecs within listedAtEnd agree runs crossing crosses chainSchema hops
+unfolding ofGroup ofCow ofGroups ones onesIn isLabel labelWithin deleted redone upTo joinReg joinRegs joinCell joinOpt word block relations fieldCount kindAt maskAt base capacityOf replicaAt clockAt usedAt firstAt nextAt relationAt labelAt flagAt valueAt stampAt each any from listed only some-of all-of times lowest blockRule emptyBlock broken relationOf schemaOf relationNumbered has own at insert inOrder join distinct leastAbove positionFrom recordOf decode follower encodeRecord encodeRecords encodeHeader encode contents headerRules firstsRule emptyAbove fieldRule recordRules countersRule chainFrom chainOf chainStep rises chainsRise onChain restZero wellFormed described stamped complete leads targets references equalOn conflictOn conflict live reached hop standing beaten keptAfter kept grounded settled shown joinedWith mergedRecords merged tooMany deltaOf editedBy newLabel flagOf flagOnly odd redoing spent supported valuesRule newRecord insertion recordAt registerAt withRegister leading updateRedoes updateConflict update deletionRedoes deletion schemaLength tableLength deltaLength marksLength badIndex schemaNumber tableNumber startNumber startTable valuesNumber valuesPart mergeNumber mergeTable marksOf marksNumber marksCount marksMarks marked placeKey walkNumber walkGiven walkPlace editNumber editTable editDelta insertionOf insertionNumber insertionLabel insertionTable insertionDelta updateOf updateNumber updateTable updateDelta deletionOf deletionNumber deletionTable deletionDelta entryAt walked tableWalked shownList afterCall next history begun pad blockOf herd header row sameWords sameEntries answerOf answers blanks other calls expected tookAtEnd sameRegs sameRecs within listedAtEnd agree runs crossing crosses chainSchema hops
 alike (f, a, b, n, inl h) = h refl
 alike (f, a, b, n, inr (e, z)) =
     let one : f ≡ 1 = omega (arith, a, b) in
@@ -88,7 +88,7 @@ alike (f, a, b, n, inr (e, z)) =
     clash kind refl
 
 pub keys-rule-out : KeysOnce herd twoAlike → ⊥
-unfolding ofGroup ofCow ofGroups ones onesIn isLabel labelWithin deleted redone upTo joinReg joinRegs joinCell joinOpt word block relations fieldCount kindAt maskAt base capacityOf replicaAt clockAt usedAt firstAt nextAt relationAt labelAt flagAt valueAt stampAt each any from listed only some-of all-of times lowest blockRule emptyBlock broken relationOf schemaOf relationNumbered has own at insert inOrder join distinct leastAbove positionFrom recordOf decode follower encodeRecord encodeRecords encodeHeader encode contents headerRules firstsRule emptyAbove fieldRule recordRules countersRule chainFrom chainOf chainStep rises chainsRise onChain restZero wellFormed described stamped complete leads targets references equalOn conflictOn conflict live reached hop standing beaten kept grounded settled shown joinedWith mergedRecords merged tooMany deltaOf editedBy newLabel flagOf flagOnly odd redoing spent supported valuesRule newRecord insertion recordAt registerAt withRegister leading updateRedoes updateConflict update deletionRedoes deletion schemaLength tableLength deltaLength marksLength badIndex schemaNumber tableNumber startNumber startTable valuesNumber valuesPart mergeNumber mergeTable marksOf marksNumber marksCount marksMarks marked placeKey walkNumber walkGiven walkPlace editNumber editTable editDelta insertionOf insertionNumber insertionLabel insertionTable insertionDelta updateOf updateNumber updateTable updateDelta deletionOf deletionNumber deletionTable deletionDelta entryAt walked tableWalked shownList afterCall next history begun pad blockOf herd header row sameWords sameEntries answerOf answers blanks other calls expected tookAtEnd sameRegs sameRecs within listedAtEnd agree runs crossing crosses chainSchema hops
+unfolding ofGroup ofCow ofGroups ones onesIn isLabel labelWithin deleted redone upTo joinReg joinRegs joinCell joinOpt word block relations fieldCount kindAt maskAt base capacityOf replicaAt clockAt usedAt firstAt nextAt relationAt labelAt flagAt valueAt stampAt each any from listed only some-of all-of times lowest blockRule emptyBlock broken relationOf schemaOf relationNumbered has own at insert inOrder join distinct leastAbove positionFrom recordOf decode follower encodeRecord encodeRecords encodeHeader encode contents headerRules firstsRule emptyAbove fieldRule recordRules countersRule chainFrom chainOf chainStep rises chainsRise onChain restZero wellFormed described stamped complete leads targets references equalOn conflictOn conflict live reached hop standing beaten keptAfter kept grounded settled shown joinedWith mergedRecords merged tooMany deltaOf editedBy newLabel flagOf flagOnly odd redoing spent supported valuesRule newRecord insertion recordAt registerAt withRegister leading updateRedoes updateConflict update deletionRedoes deletion schemaLength tableLength deltaLength marksLength badIndex schemaNumber tableNumber startNumber startTable valuesNumber valuesPart mergeNumber mergeTable marksOf marksNumber marksCount marksMarks marked placeKey walkNumber walkGiven walkPlace editNumber editTable editDelta insertionOf insertionNumber insertionLabel insertionTable insertionDelta updateOf updateNumber updateTable updateDelta deletionOf deletionNumber deletionTable deletionDelta entryAt walked tableWalked shownList afterCall next history begun pad blockOf herd header row sameWords sameEntries answerOf answers blanks other calls expected tookAtEnd sameRegs sameRecs within listedAtEnd agree runs crossing crosses chainSchema hops
 keys-rule-out k = alike (k 0 1 (omega arith) (omega arith) (omega arith) refl 1 (inl refl) (omega arith))
 
 -- "each nonempty reference finds a shown record" rules out a cow in a group that is not in the list.
@@ -99,5 +99,5 @@ unfound (q, l, e, z) =
     absurd (omega (arith, two))
 
 pub references-rule-out : ReferencesFound herd dangling → ⊥
-unfolding ofGroup ofCow ofGroups ones onesIn isLabel labelWithin deleted redone upTo joinReg joinRegs joinCell joinOpt word block relations fieldCount kindAt maskAt base capacityOf replicaAt clockAt usedAt firstAt nextAt relationAt labelAt flagAt valueAt stampAt each any from listed only some-of all-of times lowest blockRule emptyBlock broken relationOf schemaOf relationNumbered has own at insert inOrder join distinct leastAbove positionFrom recordOf decode follower encodeRecord encodeRecords encodeHeader encode contents headerRules firstsRule emptyAbove fieldRule recordRules countersRule chainFrom chainOf chainStep rises chainsRise onChain restZero wellFormed described stamped complete leads targets references equalOn conflictOn conflict live reached hop standing beaten kept grounded settled shown joinedWith mergedRecords merged tooMany deltaOf editedBy newLabel flagOf flagOnly odd redoing spent supported valuesRule newRecord insertion recordAt registerAt withRegister leading updateRedoes updateConflict update deletionRedoes deletion schemaLength tableLength deltaLength marksLength badIndex schemaNumber tableNumber startNumber startTable valuesNumber valuesPart mergeNumber mergeTable marksOf marksNumber marksCount marksMarks marked placeKey walkNumber walkGiven walkPlace editNumber editTable editDelta insertionOf insertionNumber insertionLabel insertionTable insertionDelta updateOf updateNumber updateTable updateDelta deletionOf deletionNumber deletionTable deletionDelta entryAt walked tableWalked shownList afterCall next history begun pad blockOf herd header row sameWords sameEntries answerOf answers blanks other calls expected tookAtEnd sameRegs sameRecs within listedAtEnd agree runs crossing crosses chainSchema hops
+unfolding ofGroup ofCow ofGroups ones onesIn isLabel labelWithin deleted redone upTo joinReg joinRegs joinCell joinOpt word block relations fieldCount kindAt maskAt base capacityOf replicaAt clockAt usedAt firstAt nextAt relationAt labelAt flagAt valueAt stampAt each any from listed only some-of all-of times lowest blockRule emptyBlock broken relationOf schemaOf relationNumbered has own at insert inOrder join distinct leastAbove positionFrom recordOf decode follower encodeRecord encodeRecords encodeHeader encode contents headerRules firstsRule emptyAbove fieldRule recordRules countersRule chainFrom chainOf chainStep rises chainsRise onChain restZero wellFormed described stamped complete leads targets references equalOn conflictOn conflict live reached hop standing beaten keptAfter kept grounded settled shown joinedWith mergedRecords merged tooMany deltaOf editedBy newLabel flagOf flagOnly odd redoing spent supported valuesRule newRecord insertion recordAt registerAt withRegister leading updateRedoes updateConflict update deletionRedoes deletion schemaLength tableLength deltaLength marksLength badIndex schemaNumber tableNumber startNumber startTable valuesNumber valuesPart mergeNumber mergeTable marksOf marksNumber marksCount marksMarks marked placeKey walkNumber walkGiven walkPlace editNumber editTable editDelta insertionOf insertionNumber insertionLabel insertionTable insertionDelta updateOf updateNumber updateTable updateDelta deletionOf deletionNumber deletionTable deletionDelta entryAt walked tableWalked shownList afterCall next history begun pad blockOf herd header row sameWords sameEntries answerOf answers blanks other calls expected tookAtEnd sameRegs sameRecs within listedAtEnd agree runs crossing crosses chainSchema hops
 references-rule-out r = unfound (r 0 (omega arith) 2 (omega arith) (omega arith) refl (omega arith))

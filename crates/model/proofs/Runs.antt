@@ -19,7 +19,7 @@ use Rattle.model.specs.Schemas.{blockRule, emptyBlock, broken, relationO
 use Rattle.model.specs.Records.{has, own, at, insert, inOrder, join, distinct, leastAbove, positionFrom}
 use Rattle.model.specs.Tables.{recordOf, decode, follower, encodeRecord, encodeRecords, encodeHeader, encode, contents}
 use Rattle.model.specs.WellFormed.{headerRules, firstsRule, emptyAbove, fieldRule, recordRules, countersRule, chainFrom, chainOf, chainStep, rises, chainsRise, onChain, restZero, wellFormed}
-use Rattle.model.specs.Shown.{described, stamped, complete, leads, targets, references, equalOn, conflictOn, conflict, live, reached, hop, standing, beaten, kept, grounded, settled, shown}
+use Rattle.model.specs.Shown.{described, stamped, complete, leads, targets, references, equalOn, conflictOn, conflict, live, reached, hop, standing, beaten, keptAfter, kept, grounded, settled, shown}
 use Rattle.model.specs.Merge.{joinedWith, mergedRecords, merged, tooMany}
 use Rattle.model.specs.Edits.{deltaOf, editedBy, newLabel, flagOf, flagOnly, odd, redoing, spent, supported, valuesRule, newRecord, insertion, recordAt, registerAt, withRegister, leading, updateRedoes, updateConflict, update, deletionRedoes, deletion}
 use Rattle.model.specs.Calls.{schemaLength, tableLength, deltaLength, marksLength, badIndex, schemaNumber, tableNumber, startNumber, startTable, valuesNumber, valuesPart, mergeNumber, mergeTable, marksOf, marksNumber, marksCount, marksMarks, marked, placeKey, walkNumber, walkGiven, walkPlace, editNumber, editTable, editDelta, insertionOf, insertionNumber, insertionLabel, insertionTable, insertionDelta, updateOf, updateNumber, updateTable, updateDelta, deletionOf, deletionNumber, deletionTable, deletionDelta, entryAt, walked, tableWalked, shownList}
@@ -34,7 +34,7 @@ refused : {A : Type 0} (n : ℕ) → eqb n 0 ≡ false → n ≡ 0 → A
 refused n e z = clash (eq-eqb n 0 z) e
 
 pub example-run : Run herd first calls
-unfolding blank ones onesIn isLabel labelWithin deleted redone upTo joinReg joinRegs joinCell joinOpt word block relations fieldCount kindAt maskAt base capacityOf replicaAt clockAt usedAt firstAt nextAt relationAt labelAt flagAt valueAt stampAt each any from listed only some-of all-of times lowest blockRule emptyBlock broken relationOf schemaOf relationNumbered has own at insert inOrder join distinct leastAbove positionFrom recordOf decode follower encodeRecord encodeRecords encodeHeader encode contents headerRules firstsRule emptyAbove fieldRule recordRules countersRule chainFrom chainOf chainStep rises chainsRise onChain restZero wellFormed described stamped complete leads targets references equalOn conflictOn conflict live reached hop standing beaten kept grounded settled shown joinedWith mergedRecords merged tooMany deltaOf editedBy newLabel flagOf flagOnly odd redoing spent supported valuesRule newRecord insertion recordAt registerAt withRegister leading updateRedoes updateConflict update deletionRedoes deletion schemaLength tableLength deltaLength marksLength badIndex schemaNumber tableNumber startNumber startTable valuesNumber valuesPart mergeNumber mergeTable marksOf marksNumber marksCount marksMarks marked placeKey walkNumber walkGiven walkPlace editNumber editTable editDelta insertionOf insertionNumber insertionLabel insertionTable insertionDelta updateOf updateNumber updateTable updateDelta deletionOf deletionNumber deletionTable deletionDelta entryAt walked tableWalked shownList afterCall next history begun pad blockOf herd header row sameWords sameEntries answerOf answers blanks other calls expected tookAtEnd sameRegs sameRecs within listedAtEnd agree runs crossing crosses chainSchema hops
+unfolding blank ones onesIn isLabel labelWithin deleted redone upTo joinReg joinRegs joinCell joinOpt word block relations fieldCount kindAt maskAt base capacityOf replicaAt clockAt usedAt firstAt nextAt relationAt labelAt flagAt valueAt stampAt each any from listed only some-of all-of times lowest blockRule emptyBlock broken relationOf schemaOf relationNumbered has own at insert inOrder join distinct leastAbove positionFrom recordOf decode follower encodeRecord encodeRecords encodeHeader encode contents headerRules firstsRule emptyAbove fieldRule recordRules countersRule chainFrom chainOf chainStep rises chainsRise onChain restZero wellFormed described stamped complete leads targets references equalOn conflictOn conflict live reached hop standing beaten keptAfter kept grounded settled shown joinedWith mergedRecords merged tooMany deltaOf editedBy newLabel flagOf flagOnly odd redoing spent supported valuesRule newRecord insertion recordAt registerAt withRegister leading updateRedoes updateConflict update deletionRedoes deletion schemaLength tableLength deltaLength marksLength badIndex schemaNumber tableNumber startNumber startTable valuesNumber valuesPart mergeNumber mergeTable marksOf marksNumber marksCount marksMarks marked placeKey walkNumber walkGiven walkPlace editNumber editTable editDelta insertionOf insertionNumber insertionLabel insertionTable insertionDelta updateOf updateNumber updateTable updateDelta deletionOf deletionNumber deletionTable deletionDelta entryAt walked tableWalked shownList afterCall next history begun pad blockOf herd header row sameWords sameEntries answerOf answers blanks other calls expected tookAtEnd sameRegs sameRecs within listedAtEnd agree runs crossing crosses chainSchema hops
 example-run = (
   refused _ refl,
   (
@@ -72,7 +72,7 @@ example-run = (
 
 -- Every table of the fleet begins as an accepted start leaves it.
 pub example-starts : (i : ℕ) → startNumber (blanks i) (replicas i) ≡ 0
-unfolding blank ones onesIn isLabel labelWithin deleted redone upTo joinReg joinRegs joinCell joinOpt word block relations fieldCount kindAt maskAt base capacityOf replicaAt clockAt usedAt firstAt nextAt relationAt labelAt flagAt valueAt stampAt each any from listed only some-of all-of times lowest blockRule emptyBlock broken relationOf schemaOf relationNumbered has own at insert inOrder join distinct leastAbove positionFrom recordOf decode follower encodeRecord encodeRecords encodeHeader encode contents headerRules firstsRule emptyAbove fieldRule recordRules countersRule chainFrom chainOf chainStep rises chainsRise onChain restZero wellFormed described stamped complete leads targets references equalOn conflictOn conflict live reached hop standing beaten kept grounded settled shown joinedWith mergedRecords merged tooMany deltaOf editedBy newLabel flagOf flagOnly odd redoing spent supported valuesRule newRecord insertion recordAt registerAt withRegister leading updateRedoes updateConflict update deletionRedoes deletion schemaLength tableLength deltaLength marksLength badIndex schemaNumber tableNumber startNumber startTable valuesNumber valuesPart mergeNumber mergeTable marksOf marksNumber marksCount marksMarks marked placeKey walkNumber walkGiven walkPlace editNumber editTable editDelta insertionOf insertionNumber insertionLabel insertionTable insertionDelta updateOf updateNumber updateTable updateDelta deletionOf deletionNumber deletionTable deletionDelta entryAt walked tableWalked shownList afterCall next history begun pad blockOf herd header row sameWords sameEntries answerOf answers blanks other calls expected tookAtEnd sameRegs sameRecs within listedAtEnd agree runs crossing crosses chainSchema hops
+unfolding blank ones onesIn isLabel labelWithin deleted redone upTo joinReg joinRegs joinCell joinOpt word block relations fieldCount kindAt maskAt base capacityOf replicaAt clockAt usedAt firstAt nextAt relationAt labelAt flagAt valueAt stampAt each any from listed only some-of all-of times lowest blockRule emptyBlock broken relationOf schemaOf relationNumbered has own at insert inOrder join distinct leastAbove positionFrom recordOf decode follower encodeRecord encodeRecords encodeHeader encode contents headerRules firstsRule emptyAbove fieldRule recordRules countersRule chainFrom chainOf chainStep rises chainsRise onChain restZero wellFormed described stamped complete leads targets references equalOn conflictOn conflict live reached hop standing beaten keptAfter kept grounded settled shown joinedWith mergedRecords merged tooMany deltaOf editedBy newLabel flagOf flagOnly odd redoing spent supported valuesRule newRecord insertion recordAt registerAt withRegister leading updateRedoes updateConflict update deletionRedoes deletion schemaLength tableLength deltaLength marksLength badIndex schemaNumber tableNumber startNumber startTable valuesNumber valuesPart mergeNumber mergeTable marksOf marksNumber marksCount marksMarks marked placeKey walkNumber walkGiven walkPlace editNumber editTable editDelta insertionOf insertionNumber insertionLabel insertionTable insertionDelta updateOf updateNumber updateTable updateDelta deletionOf deletionNumber deletionTable deletionDelta entryAt walked tableWalked shownList afterCall next history begun pad blockOf herd header row sameWords sameEntries answerOf answers blanks other calls expected tookAtEnd sameRegs sameRecs within listedAtEnd agree runs crossing crosses chainSchema hops
 example-starts i = go (eqb i 3) (eqb i 2) (eqb i 1)
   where
     go : (a b c : Bool) → startNumber (cond a (blank 2) (cond b (blank 3) (blank 4))) (cond c 2 1) ≡ 0
@@ -103,5 +103,5 @@ same-edits l m h = (within-found l m (and-left (within l m) (within m l) h), wit
 
 -- Demand 3, applied to the example run: tables 0 and 2, which took in the same edits, have the same records and show the same list.
 pub example-agrees : RunsConverge → SameRecords (atEnd .fleet 0) (atEnd .fleet 2) × (shownList herd (atEnd .fleet 0) ≡ shownList herd (atEnd .fleet 2))
-unfolding blank ones onesIn isLabel labelWithin deleted redone upTo joinReg joinRegs joinCell joinOpt word block relations fieldCount kindAt maskAt base capacityOf replicaAt clockAt usedAt firstAt nextAt relationAt labelAt flagAt valueAt stampAt each any from listed only some-of all-of times lowest blockRule emptyBlock broken relationOf schemaOf relationNumbered has own at insert inOrder join distinct leastAbove positionFrom recordOf decode follower encodeRecord encodeRecords encodeHeader encode contents headerRules firstsRule emptyAbove fieldRule recordRules countersRule chainFrom chainOf chainStep rises chainsRise onChain restZero wellFormed described stamped complete leads targets references equalOn conflictOn conflict live reached hop standing beaten kept grounded settled shown joinedWith mergedRecords merged tooMany deltaOf editedBy newLabel flagOf flagOnly odd redoing spent supported valuesRule newRecord insertion recordAt registerAt withRegister leading updateRedoes updateConflict update deletionRedoes deletion schemaLength tableLength deltaLength marksLength badIndex schemaNumber tableNumber startNumber startTable valuesNumber valuesPart mergeNumber mergeTable marksOf marksNumber marksCount marksMarks marked placeKey walkNumber walkGiven walkPlace editNumber editTable editDelta insertionOf insertionNumber insertionLabel insertionTable insertionDelta updateOf updateNumber updateTable updateDelta deletionOf deletionNumber deletionTable deletionDelta entryAt walked tableWalked shownList afterCall next history begun pad blockOf herd header row sameWords sameEntries answerOf answers blanks other calls expected tookAtEnd sameRegs sameRecs within listedAtEnd agree runs crossing crosses chainSchema hops
+unfolding blank ones onesIn isLabel labelWithin deleted redone upTo joinReg joinRegs joinCell joinOpt word block relations fieldCount kindAt maskAt base capacityOf replicaAt clockAt usedAt firstAt nextAt relationAt labelAt flagAt valueAt stampAt each any from listed only some-of all-of times lowest blockRule emptyBlock broken relationOf schemaOf relationNumbered has own at insert inOrder join distinct leastAbove positionFrom recordOf decode follower encodeRecord encodeRecords encodeHeader encode contents headerRules firstsRule emptyAbove fieldRule recordRules countersRule chainFrom chainOf chainStep rises chainsRise onChain restZero wellFormed described stamped complete leads targets references equalOn conflictOn conflict live reached hop standing beaten keptAfter kept grounded settled shown joinedWith mergedRecords merged tooMany deltaOf editedBy newLabel flagOf flagOnly odd redoing spent supported valuesRule newRecord insertion recordAt registerAt withRegister leading updateRedoes updateConflict update deletionRedoes deletion schemaLength tableLength deltaLength marksLength badIndex schemaNumber tableNumber startNumber startTable valuesNumber valuesPart mergeNumber mergeTable marksOf marksNumber marksCount marksMarks marked placeKey walkNumber walkGiven walkPlace editNumber editTable editDelta insertionOf insertionNumber insertionLabel insertionTable insertionDelta updateOf updateNumber updateTable updateDelta deletionOf deletionNumber deletionTable deletionDelta entryAt walked tableWalked shownList afterCall next history begun pad blockOf herd header row sameWords sameEntries answerOf answers blanks other calls expected tookAtEnd sameRegs sameRecs within listedAtEnd agree runs crossing crosses chainSchema hops
 example-agrees claim = claim herd refl blanks replicas example-starts calls example-run .agree 0 2 (same-edits _ _ refl)

@@ -17,6 +17,7 @@ pub mod Second
 pub mod Examples
 pub mod Changed
 pub mod Copies
+pub mod Losers
 pub mod Book
 pub mod Barn
 pub mod BookRuns

@@ -3,7 +3,7 @@
 use Prim.Native.Nat.{ℕ, zero, suc, _-_, _/_, _%_}
 use mathlib.Core.Bool.{Bool, true, false, cond, _||_, _&&_, not}
 use mathlib.Core.List.{List, [], _∷_}
-use lib.Dec.{eqb, ltb}
+use lib.Dec.{eqb}
 use lib.ListN.{length}
 use Rattle.crdt.specs.Flags.{isEven}
 use Rattle.crdt.specs.Cells.{Reg, Cell}
@@ -76,12 +76,17 @@ hop σ c s = only (λ (x : Rec). complete σ x && (has s (x .key) || reached σ 
 unfoldable pub standing : List Relation → List Rec → List Rec
 standing σ c = times (length c) (hop σ c) (only (live σ) c)
 
--- "3. Drop each standing record that conflicts with an older standing one (smaller label, same relation), on either key."
+-- "step 3 goes by rising label and drops a record exactly if it conflicts with an older one that step 3 kept" (document 02, F-5).
+-- The records come in list order, and k are those kept so far.
 unfoldable pub beaten : List Relation → List Rec → Rec → Bool
-beaten σ s x = some-of (λ (y : Rec). ltb (y .key) (x .key) && conflict σ y x) s
+beaten σ k x = some-of (λ (y : Rec). conflict σ y x) k
+
+unfoldable pub keptAfter : List Relation → List Rec → List Rec → List Rec
+keptAfter σ k [] = []
+keptAfter σ k (x ∷ xs) = cond (beaten σ k x) (keptAfter σ k xs) (x ∷ keptAfter σ (x ∷ k) xs)
 
 unfoldable pub kept : List Relation → List Rec → List Rec
-kept σ s = only (λ (x : Rec). not (beaten σ s x)) s
+kept σ s = keptAfter σ [] s
 
 -- "4. Of the rest, keep the largest set in which every nonempty reference leads to a member."
 -- One round drops the records with a reference that leads to no member; as many rounds as there are records drop all that must go.

@@ -16,7 +16,7 @@ use Rattle.model.specs.Lists.{from, listed, only, some-of, all-of, times, Check
 use Rattle.model.specs.Schemas.{broken, schemaOf}
 use Rattle.model.specs.Records.{Rec, has, inOrder, leastAbove, position}
 use Rattle.model.specs.Tables.{recordOf, decode}
-use Rattle.model.specs.Shown.{standing, kept, settled, shown}
+use Rattle.model.specs.Shown.{standing, keptAfter, kept, settled, shown}
 use Rattle.model.specs.Edits.{insertion}
 use Rattle.model.specs.Calls.{schemaLength, tableLength, schemaNumber, tableNumber, startNumber, startTable, marksOf, marked, placeKey, walkNumber, walkGiven, walkEnded, editNumber, insertionOf, insertionNumber, shownList}
 use Rattle.laws.proofs.Lists.{_∈_}
@@ -66,7 +66,7 @@ full-refused s own delta r vs e h =
 
 -- "N = 0 starts and shows nothing"
 shown-none : (s : List ℕ) → shown (schemaOf s) (inOrder []) ≡ []
-unfolding shown settled kept standing only times inOrder
+unfolding shown settled keptAfter kept standing only times inOrder
 shown-none s = refl
 
 lists-none : (s t : List ℕ) → tableNumber s t ≡ 0 → decode t .records ≡ [] → shownList s t ≡ []

@@ -20,7 +20,7 @@ use Rattle.laws.proofs.Lists.{_∈_}
 use Rattle.laws.proofs.Checks.{passed}
 use Rattle.laws.proofs.Members.{one-key, in-order}
 use Rattle.laws.proofs.Drafts.{shown-in}
-use Rattle.laws.proofs.Shown.{has-in, standing-in, kept-in, kept-unbeaten, settled-part, settled-largest}
+use Rattle.laws.proofs.Shown.{has-in, standing-in, kept-in, kept-apart, settled-part, settled-largest}
 use Rattle.wellformed.proofs.Ranges.{listed-length, listed-at}
 use Rattle.wellformed.proofs.Follow.{noRec}
 use Rattle.convergence.proofs.Walk.{getD-in}
@@ -57,8 +57,8 @@ module _ (σ : List Relation) (c : List Rec) where
       stays z p = settled-largest σ Two leads (kept σ (standing σ c)) inside z p
 
   -- "A step 3 winner lost in step 4 does not bring its loser back.": whatever becomes of the winner.
-  pub loser-hidden : (winner loser : Rec) → winner ∈ standing σ c → winner .key < loser .key → conflict σ winner loser ≡ true → loser ∈ shown σ c → ⊥
-  loser-hidden winner loser h l e m = clash e (kept-unbeaten σ (standing σ c) loser winner (shown-kept loser m) h l)
+  pub loser-hidden : (winner loser : Rec) → winner ∈ kept σ (standing σ c) → winner .key < loser .key → conflict σ winner loser ≡ true → loser ∈ shown σ c → ⊥
+  loser-hidden winner loser h l e m = absurd (omega (arith, kept-apart σ (standing σ c) winner loser h (shown-kept loser m) e))
 
 -- Over words: an accepted marks call writes 0 for an incomplete record.
 mark-at : (p : Rec → ℕ) (l : List Rec) (m : List ℕ) (n : ℕ) (d : Rec) → n < length l → getD (map p l ++ m) n 0 ≡ p (getD l n d)

@@ -2,7 +2,7 @@
 -- Assumes nothing.
 use Prim.Native.Nat.{ℕ, _<_}
 use mathlib.Core.Path.{_≡_, refl, sym, _∙_, ap, subst}
-use mathlib.Core.Logic.{_⊎_, inl, inr}
+use mathlib.Core.Logic.{_⊎_, inl, inr, _↔_}
 use mathlib.Core.Bool.{Bool, true, false, _&&_}
 use mathlib.Core.List.{List}
 use mathlib.Core.Option.{Option, some}
@@ -14,7 +14,7 @@ use Rattle.model.specs.Schemas.{Relation, isReference, isAbort}
 use Rattle.model.specs.Records.{Rec, has, at, Rising, Distinct}
 use Rattle.model.specs.Shown.{complete, targets, conflict, live, standing, kept, settled, shown}
 use Rattle.laws.proofs.Lists.{_∈_}
-use Rattle.laws.proofs.Shown.{has-in, in-has, settled-closed, settled-part, settled-largest, standing-in, standing-live, standing-closed, standing-least, kept-in, kept-unbeaten, kept-all}
+use Rattle.laws.proofs.Shown.{has-in, in-has, settled-closed, settled-part, settled-largest, standing-in, standing-live, standing-closed, standing-least, standing-rising, kept-in, kept-exactly, kept-only}
 use Rattle.laws.proofs.Members.{rising-distinct, one-key}
 use Rattle.synql.specs.Synql as paper
 
@@ -45,14 +45,8 @@ module _ (σ : List Relation) (c : List Rec) (rising : Rising 0 c) where
   abbrev pub Stands : Rec → Type 0
   Stands x = paper.Stands In Marked key Aborts Refers Conflicts Older x
 
-  abbrev pub Keeps : Rec → Type 0
-  Keeps x = paper.Keeps In Marked key Aborts Refers Conflicts Older x
-
-  abbrev pub Lost : Rec → Type 0
-  Lost x = paper.Lost In Marked key Aborts Refers Conflicts Older x
-
-  abbrev pub Computed : Rec → Type 0
-  Computed x = paper.Computed In Marked key Aborts Refers Conflicts Older x
+  abbrev pub Step3 : (Rec → Type 0) → Type 0
+  Step3 K = paper.Step3 In Marked key Aborts Refers Conflicts Older K
 
   d : Distinct c
   d = rising-distinct 0 c rising
@@ -82,49 +76,71 @@ module _ (σ : List Relation) (c : List Rec) (rising : Rising 0 c) where
       even (inr p) = absurd (n p)
   stands-standing (paper.hop y x s a i) = standing-closed σ c y x (stands-standing s) (i .0) (i .1) a
 
-  -- step 3
-  pub kept-keeps : (x : Rec) → x ∈ kept σ (standing σ c) → Keeps x
-  kept-keeps x m = (
-    standing-stands x (kept-in σ (standing σ c) x m),
-    λ y s k o. clash k (kept-unbeaten σ (standing σ c) x y m (stands-standing s) o),
-  )
+  -- step 3: what is kept is a choice of the paper's step 3, and there is no other
+  rises : Rising 0 (standing σ c)
+  rises = standing-rising σ c rising
 
-  pub keeps-kept : (x : Rec) → Keeps x → x ∈ kept σ (standing σ c)
-  keeps-kept x k = kept-all σ (standing σ c) x (stands-standing (k .0)) (λ y m o. free y m o (test (conflict σ y x)))
+  free : (y x : Rec) → (Conflicts y x → ⊥) → conflict σ y x ≡ false
+  free y x n = go (test (conflict σ y x))
     where
-      free : (y : Rec) → y ∈ standing σ c → y .key < x .key → (conflict σ y x ≡ true) ⊎ (conflict σ y x ≡ false) → conflict σ y x ≡ false
-      free y m o (inl p) = absurd (k .1 y (standing-stands y m) p o)
-      free y m o (inr p) = p
+      go : (conflict σ y x ≡ true) ⊎ (conflict σ y x ≡ false) → conflict σ y x ≡ false
+      go (inl e) = absurd (n e)
+      go (inr e) = e
+
+  pub kept-step3 : Step3 (λ (x : Rec). x ∈ kept σ (standing σ c))
+  kept-step3 x = (
+    λ m. let s = kept-in σ (standing σ c) x m in (standing-stands x s, λ y n q o. clash q (kept-exactly σ (standing σ c) rises x s .0 m y n o)),
+    λ p. kept-exactly σ (standing σ c) rises x (stands-standing (p .0)) .1 (λ y n o. free y x (λ q. p .1 y n q o)),
+  )
 
   kept-member : (x : Rec) → x ∈ kept σ (standing σ c) → x ∈ c
   kept-member x m = standing-in σ c x (kept-in σ (standing σ c) x m) .0
 
-  -- step 4: none that is shown references, transitively, one that is not present
-  never-lost : {x : Rec} → Lost x → x ∈ settled σ (kept σ (standing σ c)) → ⊥
-  never-lost (paper.missing x k r n) m =
-      let y = settled-closed σ (kept σ (standing σ c)) x m k r in
-      n (y .0) (kept-keeps (y .0) (settled-part σ (kept σ (standing σ c)) (y .0) (y .1))) (y .2)
-  never-lost (paper.through x y r k l) m =
-      let z = settled-closed σ (kept σ (standing σ c)) x m (y .key) r in
-      let e = one-key c d (z .0) y (kept-member (z .0) (settled-part σ (kept σ (standing σ c)) (z .0) (z .1))) (kept-member y (keeps-kept y k)) (z .2) in
-      never-lost l (subst (λ (u : Rec). u ∈ settled σ (kept σ (standing σ c))) e (z .1))
+  module _ (K : Rec → Type 0) (step : Step3 K) where
+    exact : (x : Rec) → x ∈ standing σ c → K x ↔ ((y : Rec) → y ∈ standing σ c → K y → y .key < x .key → conflict σ y x ≡ false)
+    exact x m = (
+      λ h y n k o. free y x (λ q. step x .0 h .1 y k q o),
+      λ f. step x .1 (standing-stands x m, λ y k q o. clash q (f y (stands-standing (step y .0 k .0)) k o)),
+    )
 
-  -- the shown list is the four steps over complete records
-  pub shown-computed : (x : Rec) → x ∈ shown σ c → Computed x
-  unfolding shown
-  shown-computed x m = (kept-keeps x (settled-part σ (kept σ (standing σ c)) x m), λ l. never-lost l m)
+    pub step3-kept : (x : Rec) → K x ↔ (x ∈ kept σ (standing σ c))
+    step3-kept x = (
+      λ h. kept-only σ (standing σ c) rises K exact x (stands-standing (step x .0 h .0)) .0 h,
+      λ h. kept-only σ (standing σ c) rises K exact x (kept-in σ (standing σ c) x h) .1 h,
+    )
 
-  pub computed-shown : (x : Rec) → Computed x → x ∈ shown σ c
-  unfolding shown
-  computed-shown x p = settled-largest σ Computed closed (kept σ (standing σ c)) (λ y q. keeps-kept y (q .0)) x p
-    where
-      closed : (y : Rec) → Computed y → (k : ℕ) → k ∈ targets σ isReference y → (z : Rec) × Computed z × (z .key ≡ k)
-      closed y q k r = go (test (has (kept σ (standing σ c)) k))
-        where
-          go : (has (kept σ (standing σ c)) k ≡ true) ⊎ (has (kept σ (standing σ c)) k ≡ false) → (z : Rec) × Computed z × (z .key ≡ k)
-          go (inl h) =
-              let z = has-in (kept σ (standing σ c)) k h in
-              let kz = kept-keeps (z .0) (z .1) in
-              let r′ : Refers y (z .0 .key) = rw (← (z .2)) at r in
-              (z .0, (kz, λ l. q .1 (paper.through y (z .0) r′ kz l)), z .2)
-          go (inr h) = absurd (q .1 (paper.missing y k r (λ z kz e. clash (in-has (kept σ (standing σ c)) z k (keeps-kept z kz) e) h)))
+    abbrev pub Lost : Rec → Type 0
+    Lost x = paper.Lost In Marked key Aborts Refers Conflicts Older K x
+
+    abbrev pub Computed : Rec → Type 0
+    Computed x = paper.Computed In Marked key Aborts Refers Conflicts Older K x
+
+    -- step 4: none that is shown references, transitively, one that is not present
+    never-lost : {x : Rec} → Lost x → x ∈ settled σ (kept σ (standing σ c)) → ⊥
+    never-lost (paper.missing x k r n) m =
+        let y = settled-closed σ (kept σ (standing σ c)) x m k r in
+        n (y .0) (step3-kept (y .0) .1 (settled-part σ (kept σ (standing σ c)) (y .0) (y .1))) (y .2)
+    never-lost (paper.through x y r k l) m =
+        let z = settled-closed σ (kept σ (standing σ c)) x m (y .key) r in
+        let e = one-key c d (z .0) y (kept-member (z .0) (settled-part σ (kept σ (standing σ c)) (z .0) (z .1))) (kept-member y (step3-kept y .0 k)) (z .2) in
+        never-lost l (subst (λ (u : Rec). u ∈ settled σ (kept σ (standing σ c))) e (z .1))
+
+    -- the shown list is the four steps over complete records
+    pub shown-computed : (x : Rec) → x ∈ shown σ c → Computed x
+    unfolding shown
+    shown-computed x m = (step3-kept x .1 (settled-part σ (kept σ (standing σ c)) x m), λ l. never-lost l m)
+
+    pub computed-shown : (x : Rec) → Computed x → x ∈ shown σ c
+    unfolding shown
+    computed-shown x p = settled-largest σ Computed closed (kept σ (standing σ c)) (λ y q. step3-kept y .0 (q .0)) x p
+      where
+        closed : (y : Rec) → Computed y → (k : ℕ) → k ∈ targets σ isReference y → (z : Rec) × Computed z × (z .key ≡ k)
+        closed y q k r = go (test (has (kept σ (standing σ c)) k))
+          where
+            go : (has (kept σ (standing σ c)) k ≡ true) ⊎ (has (kept σ (standing σ c)) k ≡ false) → (z : Rec) × Computed z × (z .key ≡ k)
+            go (inl h) =
+                let z = has-in (kept σ (standing σ c)) k h in
+                let kz = step3-kept (z .0) .1 (z .1) in
+                let r′ : Refers y (z .0 .key) = rw (← (z .2)) at r in
+                (z .0, (kz, λ l. q .1 (paper.through y (z .0) r′ kz l)), z .2)
+            go (inr h) = absurd (q .1 (paper.missing y k r (λ z kz e. clash (in-has (kept σ (standing σ c)) z k (step3-kept z .0 kz) e) h)))

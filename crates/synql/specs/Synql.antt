@@ -4,6 +4,7 @@
 use Prim.Native.Nat.{ℕ, _+_, max, _<_}
 use mathlib.Core.Path.{_≡_}
 use mathlib.Core.Bool.{Bool, true, false, cond, _&&_}
+use mathlib.Core.Logic.{_↔_}
 use mathlib.Core.Option.{Option, none, some}
 use lib.Dec.{eqb, ltb}
 use Rattle.crdt.specs.Flags.{isOdd}
@@ -164,14 +165,16 @@ module _ {X : Type 0} (In marked : X → Type 0) (key : X → ℕ) (aborts refer
     hop : (y x : X) → Stands y → aborts y (key x) → In x → Stands x
 
   -- "3. For all set of replicated tuples that have at least one conflicting unique key, keep the oldest (according to their identifiers) one and
-  -- remove others."
-  abbrev pub Keeps : X → Type 0
-  Keeps x = Stands x × ((y : X) → Stands y → conflicts y x → older y x → ⊥)
+  -- remove others." Document 02, F-5: "The comparison with document 004 uses this reading of its step 3." K is what step 3 keeps: each that stands
+  -- and conflicts with no older one that step 3 keeps.
+  abbrev pub Step3 : (X → Type 0) → Type 0
+  Step3 K = (x : X) → K x ↔ (Stands x × ((y : X) → K y → conflicts y x → older y x → ⊥))
 
-  -- "4. Remove all replicated tuples that transitively reference at least one replicated tuple not present in the computed state."
-  pub data Lost : X → Type 0 where
-    missing : (x : X) (k : ℕ) → refers x k → ((y : X) → Keeps y → key y ≡ k → ⊥) → Lost x
-    through : (x y : X) → refers x (key y) → Keeps y → Lost y → Lost x
+  module _ (K : X → Type 0) where
+    -- "4. Remove all replicated tuples that transitively reference at least one replicated tuple not present in the computed state."
+    pub data Lost : X → Type 0 where
+      missing : (x : X) (k : ℕ) → refers x k → ((y : X) → K y → key y ≡ k → ⊥) → Lost x
+      through : (x y : X) → refers x (key y) → K y → Lost y → Lost x
 
-  abbrev pub Computed : X → Type 0
-  Computed x = Keeps x × (Lost x → ⊥)
+    abbrev pub Computed : X → Type 0
+    Computed x = K x × (Lost x → ⊥)

@@ -54,7 +54,7 @@ fn list_runs() {
     for (name, text) in &answers {
         let first = text.lines().next().unwrap_or("");
         let wanted = match name.as_str() {
-            "c5" => "shown 2",
+            "c5" | "losers" => "shown 2",
             "empty-reference" => "shown 1",
             "n-0" => "shown 0",
             "n-300" => "shown 300",

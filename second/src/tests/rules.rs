@@ -16,7 +16,7 @@ enum Demand {
 use Demand::{Decided, Follows};
 
 /// How many items must decide a rule of the redoing, of how much a merge changed, of which copy is
-/// ahead, or of the herd book.
+/// ahead, of the herd book, or of losers that block nobody.
 const MANY: usize = 20;
 
 /// Every rule has its line here: a match without one does not compile.
@@ -32,7 +32,9 @@ fn demand(rule: Rule) -> Demand {
         Rule::DeletionReadsOwnFound => {
             Follows("the deleted record does not count, so that its flag is not read")
         }
-        Rule::KeysInOrder => Follows("a conflict on either key is the same answer"),
+        Rule::KeysInOrder => {
+            Follows("a conflict on either key is the same answer, and step 3 looks at both at once")
+        }
         Rule::ChainsAboveRelations
         | Rule::InsertionRedoes
         | Rule::InsertionTargetOdd
@@ -111,7 +113,15 @@ fn demand(rule: Rule) -> Demand {
         | Rule::FoundLabel
         | Rule::FoundWholeLabel
         | Rule::FoundShown
-        | Rule::FoundNotOnlyStanding => Decided(MANY),
+        | Rule::FoundNotOnlyStanding
+        | Rule::ByRisingLabel
+        | Rule::LabelAsNumber
+        | Rule::LoserBlocksNobody
+        | Rule::KeptInTurn
+        | Rule::FirstKeyNotBefore
+        | Rule::SecondKeyNotBefore
+        | Rule::ConflictWithLosers
+        | Rule::GuardedByLosers => Decided(MANY),
         Rule::LargerStamp
         | Rule::LargerValue
         | Rule::LargerFlag
@@ -314,6 +324,38 @@ fn book_calls_are_decided_by_their_items() {
         for call in calls {
             let of_call: Vec<(Item, Outcome)> =
                 items.iter().filter(|(item, _)| item.call == call).cloned().collect();
+            let count = without(rule, || differences(&of_call));
+            assert!(count >= MANY / 2, "{:?} {} {}", rule, call, count);
+        }
+    }
+}
+
+/// Losers that block nobody, and that still conflict and guard, decide items of each call that looks
+/// at them.
+#[test]
+fn losers_are_decided_by_each_call() {
+    let items = single_items();
+    for (rule, calls) in [
+        (
+            Rule::LoserBlocksNobody,
+            &[
+                vectors::MARKS,
+                vectors::INSERTION,
+                vectors::UPDATE,
+                vectors::DELETION,
+                vectors::BOOK_CHANGE,
+                vectors::BOOK_FIND,
+            ][..],
+        ),
+        (
+            Rule::ConflictWithLosers,
+            &[vectors::INSERTION, vectors::UPDATE, vectors::BOOK_ENTER, vectors::BOOK_CHANGE],
+        ),
+        (Rule::GuardedByLosers, &[vectors::DELETION, vectors::BOOK_STRIKE]),
+    ] {
+        for call in calls {
+            let of_call: Vec<(Item, Outcome)> =
+                items.iter().filter(|(item, _)| item.call == *call).cloned().collect();
             let count = without(rule, || differences(&of_call));
             assert!(count >= MANY / 2, "{:?} {} {}", rule, call, count);
         }

@@ -58,14 +58,14 @@ fn shown_by_definition(schema: &Schema, table: &Table) -> Vec<bool> {
                 })
             })
     };
-    let rest: Vec<usize> = all
-        .clone()
-        .filter(|a| {
-            let loses =
-                |b: usize| stands[b] && records[b].label < records[*a].label && conflict(*a, b);
-            stands[*a] && !all.clone().any(loses)
-        })
-        .collect();
+    let mut rest: Vec<usize> = Vec::new();
+    let mut by_label: Vec<usize> = all.clone().filter(|at| stands[*at]).collect();
+    by_label.sort_by_key(|at| records[*at].label);
+    for at in by_label {
+        if !rest.iter().any(|older| conflict(*older, at)) {
+            rest.push(at);
+        }
+    }
     let mut shown = vec![false; records.len()];
     for subset in 0..1u32 << rest.len() {
         let members: Vec<usize> =

@@ -12,7 +12,11 @@ mod edges;
 mod edits;
 mod fleets;
 mod items;
+mod lines;
 mod lists;
+mod loser_edits;
+mod loser_fleets;
+mod losers;
 mod merges;
 mod redoing;
 mod scalars;
@@ -74,5 +78,8 @@ pub fn vectors(seed: u64) -> Vec<Item> {
     book::book(&mut items, &mut random);
     book_find::finds(&mut items, &mut random);
     compares::compares(&mut items, &mut random);
+    losers::losers(&mut items, &mut random);
+    loser_edits::loser_edits(&mut items, &mut random);
+    loser_fleets::loser_fleets(&mut items, &mut random);
     items.into_items()
 }

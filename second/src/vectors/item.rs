@@ -123,7 +123,7 @@ pub const SHAPES: [Shape; 31] = [
 ];
 
 /// The names of the categories, from category 1 on.
-pub const CATEGORIES: [&str; 74] = [
+pub const CATEGORIES: [&str; 87] = [
     "labels, registers and flags",
     "schemas at their limits",
     "schemas with one rule broken",
@@ -198,6 +198,19 @@ pub const CATEGORIES: [&str; 74] = [
     "compare: each refusal",
     "compare: the order of the refusals",
     "compare: capacities 0 and 4,096",
+    "losers: the cows of the request",
+    "losers: lines of three to six",
+    "losers: lines with records that do not stand",
+    "losers: lines with empty references in a key",
+    "losers: lines with references to and from them",
+    "losers: many records with few values",
+    "losers: insertions",
+    "losers: updates",
+    "losers: deletions",
+    "losers: redoing",
+    "losers: edits of the herd book",
+    "losers: milkings of cows in line",
+    "losers: fleets",
 ];
 
 pub fn shape_of(call: u8) -> Option<&'static Shape> {

@@ -4,16 +4,16 @@ use Prim.Native.Nat.{_-_}
 use mathlib.Core.Path.{refl, sym, _∙_}
 use native.Mathlib.Omega.{arith}
 use Rattle.references.proofs.Places.{used-most}
-use Rattle.list_keys.proofs.Bucketed.{Walk, fall, walk-start, walk-in, walk-next, walk-less, walk-beaten, walk-unbeaten}
+use Rattle.list_keys.proofs.Bucketed.{wider, Walk, fall, walk-start, walk-in, walk-next, walk-less, walk-beaten, walk-unbeaten}
 use borrow.Author.Needs.{needs}
 use Rattle.list_keys.proofs.is_beaten.Statement.{statement}
 use Rattle.list_keys.proofs.is_beaten.Tie as tie
 
 abbrev Inv-loop : tie.InvT-loop
-Inv-loop schema table stands mask heads links b i at₀ at = Walk schema table stands mask i at
+Inv-loop schema table marks mask heads links b i at₀ at = Walk schema table marks mask i at
 
 abbrev μ-loop : tie.MeasureT-loop
-μ-loop schema table stands mask heads links b i at₀ at = fall table at
+μ-loop schema table marks mask heads links b i at₀ at = fall table at
 
 mul-at : tie.Need-mul-at Inv-loop μ-loop
 mul-at c = search needs
@@ -56,7 +56,7 @@ shared-slice-read-at-2 c =
     omega arith
 
 cast-at-2 : tie.Need-cast-at-2 Inv-loop μ-loop
-cast-at-2 c = omega (arith, c .shared-slice-known7 .given (c .before .before .before .before .loop .at - 1))
+cast-at-2 c = wider _ (c .shared-slice-known7 .given _)
 
 loop-less : tie.Need-loop-less Inv-loop μ-loop
 loop-less c = let p = c .before .before .before .before .before .before .before .before .before .before .before .pre in walk-less _ _ _ (p .0 .schema) (p .0 .formed) _ _ _ _ (p .6) _ (c .before .before .before .before .loop .inv) (c .before .before .before .loop-test .taken) _ refl
