@@ -12,3 +12,4 @@ pub mod Drafts
 pub mod Total
 pub mod OfKind
 pub mod Compared
+pub mod Seek

@@ -5,4 +5,5 @@ pub mod Meaning
 pub mod Changed
 pub mod Copies
 pub mod Losers
+pub mod Lookups
 pub mod Book

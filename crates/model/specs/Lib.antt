@@ -12,12 +12,14 @@ pub mod Calls
 pub mod Runs
 pub mod Demand
 pub mod Compare
+pub mod Lookup
 pub mod Cases
 pub mod Second
 pub mod Examples
 pub mod Changed
 pub mod Copies
 pub mod Losers
+pub mod Lookups
 pub mod Book
 pub mod Barn
 pub mod BookRuns

@@ -5,5 +5,6 @@ pub mod Shown
 pub mod Edges
 pub mod Changed
 pub mod Compared
+pub mod Lookup
 pub mod Book
 pub mod BookRuns

@@ -25,15 +25,15 @@ pub lies-cases : (k i : ℕ) (l : List ℕ) → lies k (i ∷ l) ≡ true → (k
 unfolding some-of
 lies-cases k i l h = ⊎-elim (λ p. inl (eqb-true k i p)) (λ p. inr p) (or-cases (eqb k i) (lies k l) h)
 
-lies-nil : {X : Type 0} (k : ℕ) → lies k [] ≡ true → X
+pub lies-nil : {X : Type 0} (k : ℕ) → lies k [] ≡ true → X
 unfolding some-of
 lies-nil k h = clash h refl
 
-lies-here : (i : ℕ) (l : List ℕ) → lies i (i ∷ l) ≡ true
+pub lies-here : (i : ℕ) (l : List ℕ) → lies i (i ∷ l) ≡ true
 unfolding some-of
 lies-here i l = or-left (eqb i i) (lies i l) (eq-eqb i i refl)
 
-lies-there : (k i : ℕ) (l : List ℕ) → lies k l ≡ true → lies k (i ∷ l) ≡ true
+pub lies-there : (k i : ℕ) (l : List ℕ) → lies k l ≡ true → lies k (i ∷ l) ≡ true
 unfolding some-of
 lies-there k i l h = or-right (eqb k i) (lies k l) h
 
@@ -44,11 +44,11 @@ step-facts t r low i h =
     let g = parts (leb i (usedAt t)) (eqb (relationAt t i) r ∷ ltb low (labelAt t i) ∷ leb (nextAt t i) (usedAt t) ∷ []) h in
     (leb-true i (usedAt t) (g .0), eqb-true (relationAt t i) r (g .1 .0), ltb-true low (labelAt t i) (g .1 .1 .0))
 
-rises-head : (t : List ℕ) (r low i : ℕ) (l : List ℕ) → rises t r low (i ∷ l) ≡ true → (i ≤ usedAt t) × (relationAt t i ≡ r) × (low < labelAt t i)
+pub rises-head : (t : List ℕ) (r low i : ℕ) (l : List ℕ) → rises t r low (i ∷ l) ≡ true → (i ≤ usedAt t) × (relationAt t i ≡ r) × (low < labelAt t i)
 unfolding rises
 rises-head t r low i l h = step-facts t r low i (and-left (chainStep t r low i) (rises t r (labelAt t i) l) h)
 
-rises-tail : (t : List ℕ) (r low i : ℕ) (l : List ℕ) → rises t r low (i ∷ l) ≡ true → rises t r (labelAt t i) l ≡ true
+pub rises-tail : (t : List ℕ) (r low i : ℕ) (l : List ℕ) → rises t r low (i ∷ l) ≡ true → rises t r (labelAt t i) l ≡ true
 unfolding rises
 rises-tail t r low i l h = and-right (chainStep t r low i) (rises t r (labelAt t i) l) h
 
@@ -104,12 +104,16 @@ chain-positive (suc n) t zero k h = lies-nil k h
 chain-positive (suc n) t (suc i) k h =
     ⊎-elim (λ p. omega arith) (λ p. chain-positive n t (nextAt t (suc i)) k p) (lies-cases k (suc i) (chainFrom n t (nextAt t (suc i))) h)
 
+-- at most used indices of a chain rise
+pub chain-within : (n : ℕ) (t : List ℕ) (r low i : ℕ) → rises t r low (chainFrom n t i) ≡ true → length (chainFrom n t i) ≤ usedAt t
+chain-within n t r low i h =
+    let c = chainFrom n t i in
+    omega (arith, pigeon (suc (usedAt t)) (0 ∷ c) (chain-out n t i, rises-nodup t r low c h) (omega arith, rises-under t r low c h))
+
 -- a chain ends before its bound
 pub chain-short : (t : List ℕ) (r : ℕ) → rises t r 0 (chainOf t r) ≡ true → length (chainOf t r) < usedAt t + 1
 unfolding chainOf
-chain-short t r h =
-    let c = chainFrom (usedAt t + 1) t (firstAt t r) in
-    omega (arith, pigeon (suc (usedAt t)) (0 ∷ c) (chain-out (usedAt t + 1) t (firstAt t r), rises-nodup t r 0 c h) (omega arith, rises-under t r 0 c h))
+chain-short t r h = omega (arith, chain-within (usedAt t + 1) t r 0 (firstAt t r) h)
 
 -- the record of a list that has the least label above low; 0 where there is none
 pub data Least (t l : List ℕ) (low : ℕ) : ℕ → Type 0 where
