@@ -26,7 +26,9 @@ use Rattle.answers.specs.declared.FindAnswer.{FindAnswer}
 use Rattle.answers.specs.declared.FindAnswer.the-variants as find
 use Rattle.answers.specs.declared.CompareAnswer.{CompareAnswer}
 use Rattle.answers.specs.declared.CompareAnswer.the-variants as compare
-use Rattle.answers.specs.Told.{Told, Determined, schemaTold, tableTold, startTold, mergeTold, marksTold, walkTold, insertionTold, updateTold, deletionTold, findTold, compareTold}
+use Rattle.answers.specs.declared.LookupAnswer.{LookupAnswer}
+use Rattle.answers.specs.declared.LookupAnswer.the-variants as lookup
+use Rattle.answers.specs.Told.{Told, Determined, schemaTold, tableTold, startTold, mergeTold, marksTold, walkTold, insertionTold, updateTold, deletionTold, findTold, compareTold, lookupTold}
 
 -- An answer that can be read back from what is told of it is determined.
 read-back : {A : Type 0} (f : A → Told) (g : Told → A) → ((a : A) → g (f a) ≡ a) → Determined f
@@ -185,3 +187,19 @@ compare-back compare.SecondBroken = refl
 
 pub compare-determined : Determined compareTold
 compare-determined = read-back compareTold compare-of compare-back
+
+abbrev lookup-of : Told → LookupAnswer
+lookup-of x =
+    cond (eqb (x .number) 0) (cond (x .known) (lookup.Known (x .value)) lookup.Unknown)
+    (cond (eqb (x .number) 1) lookup.WrongLength (cond (eqb (x .number) 2) lookup.SchemaBroken (cond (eqb (x .number) 3) lookup.TableBroken lookup.NoRelation)))
+
+lookup-back : (a : LookupAnswer) → lookup-of (lookupTold a) ≡ a
+lookup-back (lookup.Known v) = refl
+lookup-back lookup.Unknown = refl
+lookup-back lookup.WrongLength = refl
+lookup-back lookup.SchemaBroken = refl
+lookup-back lookup.TableBroken = refl
+lookup-back lookup.NoRelation = refl
+
+pub lookup-determined : Determined lookupTold
+lookup-determined = read-back lookupTold lookup-of lookup-back

@@ -1,6 +1,6 @@
 -- What each case of an answer tells: the number of document 01, "What a call hands back", and the value handed back beside it, which is the new
 -- label of an insertion, the shown count of marks, the index given by a walk and how many records a merge changed or added (document 02, F-1), the index
--- of a milking found (F-2), the verdict of a comparison (F-3), and 0 elsewhere; of a walk also whether the list ended. What is told determines the answer (proofs/Determined.antt).
+-- of a milking found (F-2), the verdict of a comparison (F-3), the index of a record looked up (F-6), and 0 elsewhere; of a walk also whether the list ended, and of a lookup whether the record is known. What is told determines the answer (proofs/Determined.antt).
 -- Assumes nothing.
 use Prim.Native.Nat.{ℕ}
 use mathlib.Core.Bool.{Bool, true, false}
@@ -27,14 +27,20 @@ use Rattle.answers.specs.declared.FindAnswer.{FindAnswer}
 use Rattle.answers.specs.declared.FindAnswer.the-variants as find
 use Rattle.answers.specs.declared.CompareAnswer.{CompareAnswer}
 use Rattle.answers.specs.declared.CompareAnswer.the-variants as compare
+use Rattle.answers.specs.declared.LookupAnswer.{LookupAnswer}
+use Rattle.answers.specs.declared.LookupAnswer.the-variants as lookup
 
 pub record Told : Type 0 where
   pub number : ℕ
   pub value : ℕ
   pub ended : Bool
+  pub known : Bool
 
 abbrev pub toldEnded : ℕ → ℕ → Bool → Told
-toldEnded n v e = record { number = n; value = v; ended = e }
+toldEnded n v e = record { number = n; value = v; ended = e; known = false }
+
+abbrev pub toldKnown : ℕ → ℕ → Bool → Told
+toldKnown n v k = record { number = n; value = v; ended = false; known = k }
 
 abbrev pub told : ℕ → ℕ → Told
 told n v = toldEnded n v false
@@ -128,3 +134,11 @@ compareTold compare.WrongLength = told 1 0
 compareTold compare.SchemaBroken = told 2 0
 compareTold compare.FirstBroken = told 3 0
 compareTold compare.SecondBroken = told 4 0
+
+abbrev pub lookupTold : LookupAnswer → Told
+lookupTold (lookup.Known v) = toldKnown 0 v true
+lookupTold lookup.Unknown = told 0 0
+lookupTold lookup.WrongLength = told 1 0
+lookupTold lookup.SchemaBroken = told 2 0
+lookupTold lookup.TableBroken = told 3 0
+lookupTold lookup.NoRelation = told 5 0

@@ -1,7 +1,7 @@
 // The answers of the calls of document 01, "What a call hands back": an enum for each call, with the page's number and the values
 // of each case.
 ghost use mathlib.Core.Path.{_≡_};
-ghost use Rattle.answers.specs.Told.{schemaTold, tableTold, startTold, mergeTold, marksTold, walkTold, insertionTold, updateTold, deletionTold, findTold, compareTold};
+ghost use Rattle.answers.specs.Told.{schemaTold, tableTold, startTold, mergeTold, marksTold, walkTold, insertionTold, updateTold, deletionTold, findTold, compareTold, lookupTold};
 
 // Schema check.
 pub enum SchemaAnswer {
@@ -355,6 +355,45 @@ impl CompareAnswer {
             CompareAnswer::SchemaBroken => 0,
             CompareAnswer::FirstBroken => 0,
             CompareAnswer::SecondBroken => 0,
+        }
+    }
+}
+
+// A record looked up by relation and label, with its index.
+pub enum LookupAnswer {
+    Known(usize),
+    Unknown,
+    WrongLength,
+    SchemaBroken,
+    TableBroken,
+    NoRelation,
+}
+
+impl LookupAnswer {
+    pub fn number(self) -> u64
+        ensures { λ r. ⌜ r ≡ lookupTold self .number ⌝ }
+    {
+        match self {
+            LookupAnswer::Known(_) => 0,
+            LookupAnswer::Unknown => 0,
+            LookupAnswer::WrongLength => 1,
+            LookupAnswer::SchemaBroken => 2,
+            LookupAnswer::TableBroken => 3,
+            LookupAnswer::NoRelation => 5,
+        }
+    }
+
+    // The index of the record; 0 where it is not known and in a refusal.
+    pub fn index(self) -> usize
+        ensures { λ r. ⌜ r ≡ lookupTold self .value ⌝ }
+    {
+        match self {
+            LookupAnswer::Known(i) => i,
+            LookupAnswer::Unknown => 0,
+            LookupAnswer::WrongLength => 0,
+            LookupAnswer::SchemaBroken => 0,
+            LookupAnswer::TableBroken => 0,
+            LookupAnswer::NoRelation => 0,
         }
     }
 }
