@@ -8,12 +8,12 @@ major = 3
 
 -- Something was added, and what there was is the same.
 abbrev pub minor : ℕ
-minor = 0
+minor = 1
 
 -- Neither; the code is another.
 abbrev pub patch : ℕ
 patch = 0
 
--- One number, which is the larger the later the version is: 3.0.0 is 30000.
+-- One number, which is the larger the later the version is: 3.1.0 is 30100.
 abbrev pub version : ℕ
 version = major * 10000 + minor * 100 + patch

@@ -3,12 +3,13 @@
 ghost use mathlib.Core.Path.{_≡_};
 ghost use Rattle.model.specs.Calls.{schemaNumber, tableNumber, startNumber, startTable, valuesNumber, valuesFirst, mergeNumber, mergeTable, mergeChanged, marksNumber, marksCount, marksMarks, walkNumber, walkGiven, walkPlace, insertionNumber, insertionLabel, insertionTable, insertionDelta, updateNumber, updateTable, updateDelta, deletionNumber, deletionTable, deletionDelta};
 ghost use Rattle.model.specs.Compare.{compareNumber, compareVerdict};
+ghost use Rattle.model.specs.Lookup.{lookupNumber, lookupIndex};
 ghost use Rattle.herd.specs.Version.{version};
 
 // The parts of the version. CHANGELOG.md tells when each one rises.
 const MAJOR: u64 = 3;
 
-const MINOR: u64 = 0;
+const MINOR: u64 = 1;
 
 const PATCH: u64 = 0;
 
@@ -77,6 +78,23 @@ pub extern "C" fn herd_compare(
 {
     let answer = compare::compare(schema, first, second);
     *verdict = answer.verdict();
+    answer.number()
+}
+
+// A record looked up by relation and label, for C: the answer's number; `index` becomes its index, 0 where it is not known and in a refusal.
+#[no_mangle]
+pub extern "C" fn herd_lookup(
+    schema: &[u64],
+    table: &[u64],
+    relation: usize,
+    label: u64,
+    index: &mut u64,
+) -> u64
+    ensures answer { λ r. ⌜ r ≡ lookupNumber (now (schema .entry)) (now (table .entry)) relation label ⌝ }
+    ensures position { λ _. ⌜ now (index .exit) ≡ lookupIndex (now (schema .entry)) (now (table .entry)) relation label ⌝ }
+{
+    let answer = lookup::lookup(schema, table, relation, label);
+    *index = answer.index() as u64;
     answer.number()
 }
 

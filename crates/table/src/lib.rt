@@ -10,8 +10,13 @@ ghost use Rattle.model.specs.Lists.{each};
 ghost use Rattle.model.specs.Schemas.{broken};
 ghost use Rattle.model.specs.WellFormed.{recordRules, countersRule, chainStep, chainsRise, onChain, restZero, wellFormed};
 ghost use Rattle.model.specs.Calls.{schemaLength, tableLength, tableNumber};
-ghost use Rattle.table.specs.Chains.{walkedChain};
+ghost use Rattle.model.specs.Lookup.{readRule};
+ghost use Rattle.table.specs.Chains.{walkedTo, walkedOf, walkedChain};
 use answers::TableAnswer;
+use crdt::Label;
+
+// Above every label: a walk to it goes to the end of the chain.
+const LABEL_SPAN: u64 = (Label::LARGEST_COUNTER + 1) * (Label::LARGEST_REPLICA + 1);
 
 // One step of the chain of relation `r`, onto record `i` from a label.
 pub fn chain_step(t: &[u64], r: usize, low: u64, i: usize) -> bool
@@ -24,35 +29,73 @@ pub fn chain_step(t: &[u64], r: usize, low: u64, i: usize) -> bool
     (i <= used) & own & rises & ends
 }
 
-// A chain that was walked: whether it rises and its records are good, and how many it holds.
-pub enum Walked {
-    Broken,
-    Whole(usize),
+// Whether record `i`, read on the way along the chain of relation `r` after the label `low`, is good.
+fn is_good(schema: &[u64], t: &[u64], r: usize, low: u64, i: usize) -> bool
+    requires { ⌜ (length (now schema) ≡ schemaWords) × (relations (now schema) ≤ mostRelations) × (clockAt (now t) ≤ largestCounter) × (usedAt (now t) ≤ capacityOf (now t)) × (1 ≤ i) ⌝ }
+    ensures { λ x. ⌜ x ≡ readRule (now (schema .entry)) (now (t .entry)) r low i ⌝ }
+{
+    if !chain_step(t, r, low, i) {
+        return false;
+    }
+    table_rules::record_good(schema, t, i)
 }
 
-// Walks the chain of relation `r`, and tests each record that it meets. A chain that comes back to a record stops rising within
-// used + 1 steps.
-pub fn walk_chain(schema: &[u64], t: &[u64], r: usize) -> Walked
+// Where a walk along a chain ends: at a record that is not good, at one whose label is not below the label looked for, or behind the last
+// record, with how many were read.
+pub enum Stop {
+    Broken,
+    At(usize),
+    End(usize),
+}
+
+// Walks the chain of relation `r` to the first label that is not below `label`, and tests each record that it reads. A chain that comes back
+// to a record stops rising within used + 1 steps.
+pub fn walk_to(schema: &[u64], t: &[u64], r: usize, label: u64) -> Stop
     requires { ⌜ (length (now schema) ≡ schemaWords) × (relations (now schema) ≤ mostRelations) × (clockAt (now t) ≤ largestCounter) × (usedAt (now t) ≤ capacityOf (now t)) × (usedAt (now t) ≤ mostRecords) ⌝ }
-    ensures { λ x. ⌜ x ≡ walkedChain (now (schema .entry)) (now (t .entry)) r ⌝ }
+    ensures { λ x. ⌜ x ≡ walkedTo (now (schema .entry)) (now (t .entry)) r label ⌝ }
 {
     let mut left = layout::used(t) + 1;
     let mut low = 0;
     let mut n = 0;
     let mut i = layout::first_at(t, r);
     while (0 < left) & (0 < i) {
-        if !chain_step(t, r, low, i) {
-            return Walked::Broken;
-        }
-        if !table_rules::record_good(schema, t, i) {
-            return Walked::Broken;
+        if !is_good(schema, t, r, low, i) {
+            return Stop::Broken;
         }
         low = layout::label_at(t, i);
+        if label <= low {
+            return Stop::At(i);
+        }
         i = layout::next_at(t, i);
         n += 1;
         left -= 1;
     }
-    Walked::Whole(n)
+    Stop::End(n)
+}
+
+// A chain that was walked: whether it rises and its records are good, and how many it holds.
+pub enum Walked {
+    Broken,
+    Whole(usize),
+}
+
+// What a walk past every label says of the chain.
+fn to_end(stop: Stop) -> Walked
+    ensures { λ x. ⌜ x ≡ walkedOf stop ⌝ }
+{
+    match stop {
+        Stop::Broken => Walked::Broken,
+        Stop::At(_) => Walked::Broken,
+        Stop::End(n) => Walked::Whole(n),
+    }
+}
+
+// Walks the chain of relation `r` to its end, and tests each record that it meets.
+pub fn walk_chain(schema: &[u64], t: &[u64], r: usize) -> Walked
+    requires { ⌜ (length (now schema) ≡ schemaWords) × (relations (now schema) ≤ mostRelations) × (clockAt (now t) ≤ largestCounter) × (usedAt (now t) ≤ capacityOf (now t)) × (usedAt (now t) ≤ mostRecords) ⌝ }
+    ensures { λ x. ⌜ x ≡ walkedChain (now (schema .entry)) (now (t .entry)) r ⌝ }
+{
+    to_end(walk_to(schema, t, r, LABEL_SPAN))
 }
 
 // The used records are good, and the chains rise and hold every one of them: a record lies on the chain of one relation only, and
