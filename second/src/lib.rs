@@ -6,7 +6,8 @@
 //!
 //! Each call first decodes the lent words. The decoding of a broken schema, or of a table that is
 //! not well-formed, fails, and this failure is the check. An accepted call works on the decoded
-//! table and encodes it again. No call panics on any words.
+//! table and encodes it again. A lookup alone decodes no table: it reads and tests the records on its
+//! way. No call panics on any words.
 
 pub mod book;
 pub mod cases;
@@ -16,6 +17,7 @@ pub mod inputs;
 pub mod label;
 pub mod layout;
 pub mod list;
+pub mod lookup;
 pub mod merge;
 pub mod random;
 mod rules;
@@ -30,6 +32,7 @@ mod tests;
 pub use compare::{compare, Verdict};
 pub use edit::{deletion, insertion, update};
 pub use label::{delete, join_flags, join_registers, label_of, redo, Register};
+pub use lookup::lookup;
 pub use merge::merge;
 pub use schema::schema_check;
 pub use shown::{marks, walk, Step};

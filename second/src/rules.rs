@@ -254,6 +254,89 @@ rules! {
     /// "the lowest that applies is the answer": 3 where both are damaged. Dropped: 4.
     FirstBeforeSecond,
 
+    // Known or not.
+    /// "looks up a record by relation and label": by the relation. Dropped: a record of any relation
+    /// with the label is known.
+    KnownByRelation,
+    /// The same: by the label, as it is. Dropped: its last 48 bits.
+    KnownByWholeLabel,
+    /// The same: by each apart. Dropped: by relation × 2^48 + label.
+    KnownApart,
+    /// "walk the relation's chain". Dropped: a record that is on no chain is known too.
+    KnownOnChain,
+    /// "stop at the label". Dropped: the next one is read.
+    StopAtLabel,
+    /// "stop [...] at a larger one". Dropped: the chain is read to its end.
+    StopAtLarger,
+    /// "a larger one"; "Labels compare as numbers." Dropped: by replica before counter.
+    LargerAsNumber,
+    /// "stop at the label, at a larger one, or at the end", for a number that is no label too.
+    /// Dropped: no record is read.
+    NoLabelWalked,
+    /// "its yes or no", for a number that is no label too. Dropped: 7.
+    NoLabelAnswered,
+    /// "a search through all records": deleted ones too. Dropped: even ones alone.
+    KnownDeleted,
+    /// "a search through all records": incomplete ones too. Dropped: complete ones alone.
+    KnownIncomplete,
+    /// "a search through all records": hidden ones too. Dropped: shown ones alone.
+    KnownHidden,
+    /// Yes comes with the record's index. Dropped: with the number of records read.
+    KnownIndex,
+    /// No comes with index 0. Dropped: with that of the last record read.
+    UnknownZero,
+    /// "length [...] as before": the schema's.
+    LookupSchemaLength,
+    /// "length [...] as before": the table's.
+    LookupTableLength,
+    /// "length, schema and relation as before": the relation. Dropped: one that is not 1 to R has no
+    /// records.
+    LookupRelationNumber,
+    /// "the lowest that applies is the answer": 1 before 2. Dropped: 2 before 1.
+    LengthBeforeSchema,
+    /// "the lowest that applies is the answer": 2 before 3. Dropped: 3 before 2.
+    SchemaBeforeHeader,
+    /// "the lowest that applies is the answer": 3 before 5. Dropped: 5 before 3.
+    HeaderBeforeRelation,
+    /// "a record read on the way": none of a relation that is not 1 to R. Dropped: those of all
+    /// chains, before 5.
+    NoRecordRead,
+    /// "a first index passes used": that of the relation asked for. Dropped: its chain is empty.
+    AskedFirst,
+    /// "a first index passes used": those of the others.
+    OtherFirsts,
+    /// "a chain above R isn't empty".
+    EmptyAboveRelations,
+    /// "a record read on the way [...] breaks a rule of its own words": one before the last.
+    WayOwnWords,
+    /// "the last included, breaks a rule of its own words".
+    LastOwnWords,
+    /// "a record read on the way [...] is of another relation": one before the last.
+    WayRelation,
+    /// "the last included, [...] is of another relation".
+    LastRelation,
+    /// "a record read on the way [...] doesn't raise the label": one before the last.
+    WayRaises,
+    /// "the last included, [...] doesn't raise the label".
+    LastRaises,
+    /// "doesn't raise the label": an equal one does not. Dropped: it does.
+    RaisesStrictly,
+    /// "a record read on the way [...] holds a counter above the clock": one before the last.
+    WayCounters,
+    /// "the last included, [...] holds a counter above the clock".
+    LastCounters,
+    /// "a record read on the way [...] has a next above used": one before the last. Dropped: such an
+    /// index ends the chain.
+    WayNext,
+    /// "the last included, [...] has a next above used".
+    LastNext,
+    /// "3 exactly if": not for other chains' records. Dropped: for them too.
+    OtherChainsUnseen,
+    /// "3 exactly if": not for words above the used records. Dropped: for them too.
+    AboveUsedUnseen,
+    /// "3 exactly if": not for a record that is on no chain. Dropped: for it too.
+    LostUnseen,
+
     // Insertion.
     /// "the new label is clock + 1 with the own replica number": the number. Dropped: 1.
     NewLabelReplica,

@@ -117,7 +117,8 @@ fn read_register(kind: Kind, value: u64, stamp: u64, clock: u64) -> Option<Regis
     }
 }
 
-fn read_record(schema: &Schema, words: &[u64], clock: u64) -> Option<Record> {
+/// The record that these words tell, if they keep their rules and hold no counter above the clock.
+pub fn read_record(schema: &Schema, words: &[u64], clock: u64) -> Option<Record> {
     let (relation, name, flag) = (words[RELATION], words[LABEL], words[FLAG]);
     let kinds: &[Kind] = match schema.relation(relation) {
         Some(of) => &of.kinds,
@@ -173,16 +174,21 @@ fn chains_hold(words: &[u64], records: &[Record]) -> bool {
     holds(Rule::OnAChain, held == records.len())
 }
 
+/// Whether the words of the header but for the first indices keep their rules.
+pub fn header_holds(words: &[u64], capacity: usize) -> bool {
+    holds(Rule::SomeReplica, 1 <= words[REPLICA])
+        && holds(Rule::MostReplica, words[REPLICA] <= label::LARGEST_REPLICA)
+        && holds(Rule::ClockRange, words[CLOCK] <= label::LARGEST_COUNTER)
+        && holds(Rule::UsedWithinCapacity, words[USED] <= capacity as u64)
+        && holds(Rule::HeaderZero, words[ZERO] == 0)
+        && holds(Rule::HeaderEnd, words[ZEROS..HEADER].iter().all(|word| *word == 0))
+}
+
 /// The table that the words tell, if they have a right length and are well-formed.
 pub fn read(schema: &Schema, words: &[u64]) -> Option<Table> {
     let capacity = capacity_of(words.len())?;
     let (replica, clock, used) = (words[REPLICA], words[CLOCK], words[USED]);
-    let header = holds(Rule::SomeReplica, 1 <= replica)
-        && holds(Rule::MostReplica, replica <= label::LARGEST_REPLICA)
-        && holds(Rule::ClockRange, clock <= label::LARGEST_COUNTER)
-        && holds(Rule::UsedWithinCapacity, used <= capacity as u64)
-        && holds(Rule::HeaderZero, words[ZERO] == 0)
-        && holds(Rule::HeaderEnd, words[ZEROS..HEADER].iter().all(|word| *word == 0));
+    let header = header_holds(words, capacity);
     let end = layout::record((used as usize).min(capacity));
     if !header || !holds(Rule::WordsAboveUsed, words[end..].iter().all(|word| *word == 0)) {
         return None;

@@ -9,6 +9,7 @@ mod edits;
 mod fleets;
 mod items;
 mod list;
+mod lookup;
 mod losers;
 mod refusals;
 mod rules;

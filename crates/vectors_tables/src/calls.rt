@@ -143,6 +143,21 @@ fn compare(s: &[u8], taken: Inputs, schema: &[u64], own: &[u64], third: &[u64]) 
     items::with_result(s, back, got.verdict())
 }
 
+fn lookup(s: &[u8], taken: Inputs, schema: &[u64], own: &[u64]) -> Back {
+    let n = stream::words_of(s, taken.schema, schema);
+    let m = stream::words_of(s, taken.own, own);
+    let relation = number(s, taken.at);
+    let label = number(s, relation.at);
+    let got = lookup::lookup(
+        &schema[0..n],
+        &own[0..m],
+        relation.value as usize,
+        label.value,
+    );
+    let back = items::answered(s, label.at, taken.words, taken.sum, got.number());
+    items::with_result(s, back, got.index() as u64)
+}
+
 pub fn run(
     s: &[u8],
     c: Cursor,
@@ -193,6 +208,7 @@ fn run_loaded(
         9 => values_of(s, taken, own),
         10 => merge(s, taken, schema, own, third),
         31 => compare(s, taken, schema, own, third),
+        32 => lookup(s, taken, schema, own),
         _ => items::unknown(taken),
     }
 }

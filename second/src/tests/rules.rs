@@ -16,7 +16,7 @@ enum Demand {
 use Demand::{Decided, Follows};
 
 /// How many items must decide a rule of the redoing, of how much a merge changed, of which copy is
-/// ahead, of the herd book, or of losers that block nobody.
+/// ahead, of what is known, of the herd book, or of losers that block nobody.
 const MANY: usize = 20;
 
 /// Every rule has its line here: a match without one does not compile.
@@ -94,6 +94,44 @@ fn demand(rule: Rule) -> Demand {
         | Rule::FirstDamaged
         | Rule::SecondDamaged
         | Rule::FirstBeforeSecond
+        | Rule::KnownByRelation
+        | Rule::KnownByWholeLabel
+        | Rule::KnownApart
+        | Rule::KnownOnChain
+        | Rule::StopAtLabel
+        | Rule::StopAtLarger
+        | Rule::LargerAsNumber
+        | Rule::NoLabelWalked
+        | Rule::NoLabelAnswered
+        | Rule::KnownDeleted
+        | Rule::KnownIncomplete
+        | Rule::KnownHidden
+        | Rule::KnownIndex
+        | Rule::UnknownZero
+        | Rule::LookupSchemaLength
+        | Rule::LookupTableLength
+        | Rule::LookupRelationNumber
+        | Rule::LengthBeforeSchema
+        | Rule::SchemaBeforeHeader
+        | Rule::HeaderBeforeRelation
+        | Rule::NoRecordRead
+        | Rule::AskedFirst
+        | Rule::OtherFirsts
+        | Rule::EmptyAboveRelations
+        | Rule::WayOwnWords
+        | Rule::LastOwnWords
+        | Rule::WayRelation
+        | Rule::LastRelation
+        | Rule::WayRaises
+        | Rule::LastRaises
+        | Rule::RaisesStrictly
+        | Rule::WayCounters
+        | Rule::LastCounters
+        | Rule::WayNext
+        | Rule::LastNext
+        | Rule::OtherChainsUnseen
+        | Rule::AboveUsedUnseen
+        | Rule::LostUnseen
         | Rule::KindsInOrder
         | Rule::FieldsInOrder
         | Rule::GroupNumberIsKey
@@ -304,6 +342,35 @@ fn comparisons_are_decided_by_the_merge() {
     ] {
         let count = without(rule, || differences(&compares));
         assert!(count >= MANY, "{:?} {}", rule, count);
+    }
+}
+
+/// A lookup tests the words of the header, and of the records that it reads, as a table check does.
+#[test]
+fn lookups_are_decided_by_the_rules_of_words() {
+    let items = single_items();
+    let lookups: Vec<(Item, Outcome)> =
+        items.into_iter().filter(|(item, _)| item.call == vectors::LOOKUP).collect();
+    for rule in [
+        Rule::SomeReplica,
+        Rule::MostReplica,
+        Rule::ClockRange,
+        Rule::UsedWithinCapacity,
+        Rule::HeaderZero,
+        Rule::HeaderEnd,
+        Rule::RecordLabel,
+        Rule::FlagRange,
+        Rule::Stamp,
+        Rule::ValueUnderNone,
+        Rule::UnusedValues,
+        Rule::UnusedStamps,
+        Rule::Reference,
+        Rule::ClockOverLabels,
+        Rule::ClockOverStamps,
+        Rule::ClockOverReferences,
+    ] {
+        let count = without(rule, || differences(&lookups));
+        assert!(count >= MANY / 2, "{:?} {}", rule, count);
     }
 }
 

@@ -8,8 +8,8 @@ use crate::list::list;
 use crate::random::{self, Random, Shape};
 use crate::table::{Record, Table};
 use crate::{
-    compare, deletion, insertion, marks, merge, number, schema_check, start, table_check, update,
-    values, walk,
+    compare, deletion, insertion, lookup, marks, merge, number, schema_check, start, table_check,
+    update, values, walk,
 };
 use std::collections::BTreeMap;
 
@@ -146,6 +146,7 @@ fn no_words_panic() {
         let _ = table_check(&schema, &own);
         let _ = values(&own, a);
         let _ = compare(&schema, &own, &other);
+        let _ = lookup(&schema, &own, a, c);
         let _ = merge(&schema, &mut own, &other);
         let _ = insertion(&schema, &mut own, &mut written, a, &[b, c]);
         let _ = update(&schema, &mut own, &mut written, a, b, c);

@@ -4,6 +4,7 @@ mod book;
 mod book_find;
 mod book_tables;
 mod capacities;
+mod chains;
 mod changes;
 mod compares;
 mod copies;
@@ -14,6 +15,8 @@ mod fleets;
 mod items;
 mod lines;
 mod lists;
+mod lookup_damage;
+mod lookups;
 mod loser_edits;
 mod loser_fleets;
 mod losers;
@@ -81,5 +84,7 @@ pub fn vectors(seed: u64) -> Vec<Item> {
     losers::losers(&mut items, &mut random);
     loser_edits::loser_edits(&mut items, &mut random);
     loser_fleets::loser_fleets(&mut items, &mut random);
+    lookups::lookups(&mut items, &mut random);
+    lookup_damage::lookup_damage(&mut items, &mut random);
     items.into_items()
 }

@@ -86,9 +86,10 @@ pub const BOOK_CHANGE: u8 = 28;
 pub const BOOK_STRIKE: u8 = 29;
 pub const BOOK_FIND: u8 = 30;
 pub const COMPARE: u8 = 31;
+pub const LOOKUP: u8 = 32;
 
 /// The shape of each call, from call 1 on.
-pub const SHAPES: [Shape; 31] = [
+pub const SHAPES: [Shape; 32] = [
     shape("label_of", &[], 2, 1, &[], TABLES),
     shape("register_join", &[], 4, 3, &[], TABLES),
     shape("flag_join", &[], 2, 2, &[], TABLES),
@@ -120,10 +121,11 @@ pub const SHAPES: [Shape; 31] = [
     shape("book_strike", &[TABLE, THIRD], 2, 0, &[TABLE, THIRD], BOOK),
     shape("book_find", &[TABLE], 1, 1, &[], BOOK),
     shape("compare", &[SCHEMA, TABLE, THIRD], 0, 1, &[], TABLES),
+    shape("lookup", &[SCHEMA, TABLE], 2, 1, &[], TABLES),
 ];
 
 /// The names of the categories, from category 1 on.
-pub const CATEGORIES: [&str; 87] = [
+pub const CATEGORIES: [&str; 102] = [
     "labels, registers and flags",
     "schemas at their limits",
     "schemas with one rule broken",
@@ -211,6 +213,21 @@ pub const CATEGORIES: [&str; 87] = [
     "losers: edits of the herd book",
     "losers: milkings of cows in line",
     "losers: fleets",
+    "lookup: every stored label",
+    "lookup: labels beside those stored",
+    "lookup: deleted, incomplete and hidden records",
+    "lookup: numbers that are no labels",
+    "lookup: labels of other relations",
+    "lookup: the last record read is damaged",
+    "lookup: a record before it is damaged",
+    "lookup: chains that come back to a record",
+    "lookup: damage behind the last record read",
+    "lookup: damage that is not on the chain",
+    "lookup: records that are on no chain",
+    "lookup: header words and first indices",
+    "lookup: relations that are not 1 to R",
+    "lookup: lengths and schemas, and the order of the refusals",
+    "lookup: capacities 0 and 4,096",
 ];
 
 pub fn shape_of(call: u8) -> Option<&'static Shape> {

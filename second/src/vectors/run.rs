@@ -8,8 +8,8 @@ use crate::label::{delete, join_flags, join_registers, label_of, redo, Register}
 use crate::layout::FIELDS;
 use crate::shown::given;
 use crate::{
-    compare, deletion, insertion, marks, merge, number, schema_check, start, table_check, update,
-    values, walk,
+    compare, deletion, insertion, lookup, marks, merge, number, schema_check, start, table_check,
+    update, values, walk,
 };
 
 fn result(word: u64) -> Outcome {
@@ -75,6 +75,10 @@ fn run_table(item: &Item) -> Outcome {
         COMPARE => {
             let answer = compare(&s[0], &s[1], &s[2]);
             outcome(number(&answer), vec![told(&answer)], vec![])
+        }
+        LOOKUP => {
+            let answer = lookup(&s[0], &s[1], w[0], w[1]);
+            outcome(number(&answer), vec![answer.unwrap_or(0)], vec![])
         }
         MARKS => {
             let mut found = bytes(&s[2]);

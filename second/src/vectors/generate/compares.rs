@@ -169,7 +169,7 @@ fn edits(items: &mut Items, random: &mut Random) {
 }
 
 /// A fleet after some calls.
-fn some_fleet(random: &mut Random) -> Fleet {
+pub fn some_fleet(random: &mut Random) -> Fleet {
     let mut fleet = Fleet::default();
     for item in fleets::begin(random) {
         run(&mut fleet, &item);
@@ -245,7 +245,7 @@ fn damage(random: &mut Random, schema: &[u64], words: &mut [u64]) {
     }
 }
 
-fn broken(random: &mut Random, schema: &[u64]) -> Vec<u64> {
+pub fn broken(random: &mut Random, schema: &[u64]) -> Vec<u64> {
     let mut words = schema.to_vec();
     while crate::schema::read(&words).is_some() {
         break_schema(random, &mut words);
@@ -253,7 +253,7 @@ fn broken(random: &mut Random, schema: &[u64]) -> Vec<u64> {
     words
 }
 
-fn resize(random: &mut Random, words: &mut Vec<u64>) {
+pub fn resize(random: &mut Random, words: &mut Vec<u64>) {
     let length = words.len();
     let lengths = [0, HEADER - 1, length - 1, length + 1, length + RECORD - 1];
     words.resize(random.pick(&lengths), 0);
