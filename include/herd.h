@@ -9,6 +9,7 @@
  *   3. Merge what arrives (herd_merge). Tables that took in the same edits, in whatever order, show the same list.
  *   4. Mark the shown records (herd_marks) and read them in order (herd_walk, herd_values).
  *   5. Of two copies, ask which one must take in the other (herd_compare).
+ *   6. Ask whether a record is known, by relation and label, and for its index (herd_lookup).
  *
  * A record is complete when all its fields have arrived. The complete records that are not deleted stand, and so do the complete ones that
  * standing records reference by abort. From the oldest on, a standing record is kept unless it has a key of an older one that is kept: one
@@ -32,7 +33,8 @@
  *
  * What all calls answer
  *   - The number of the first check that fails, in number order (enum herd_answer), or HERD_DONE.
- *   - A refused call changes no word, no mark and no place; changed, verdict, label, shown, given and first become 0.
+ *   - A refused call changes no word, no mark and no place; changed, verdict, the index of a lookup, label, shown, given and first
+ *     become 0.
  */
 #ifndef HERD_H
 #define HERD_H
@@ -45,11 +47,11 @@ extern "C" {
 #endif
 
 /*
- * The version of this header, as one number: 3.0.0 is 30000. A change of a parameter list, of a layout figure or of what a call answers
+ * The version of this header, as one number: 3.1.0 is 30100. A change of a parameter list, of a layout figure or of what a call answers
  * raises the major part, an addition the minor part, anything else the patch. CHANGELOG.md tells what changed.
  */
 #define HERD_VERSION_MAJOR 3
-#define HERD_VERSION_MINOR 0
+#define HERD_VERSION_MINOR 1
 #define HERD_VERSION_PATCH 0
 #define HERD_VERSION (HERD_VERSION_MAJOR * 10000 + HERD_VERSION_MINOR * 100 + HERD_VERSION_PATCH)
 
@@ -70,7 +72,7 @@ enum herd_answer {
     HERD_DONE = 0,
     HERD_LENGTH_OR_INDEX = 1,       /* wrong length of a slice other than an insertion's values; index 0, above used or above N */
     HERD_SCHEMA_BROKEN = 2,         /* schema broken */
-    HERD_OWN_NOT_WELL_FORMED = 3,   /* own table not well-formed; in a comparison the first table */
+    HERD_OWN_NOT_WELL_FORMED = 3,   /* own table not well-formed; in a comparison the first table, in a lookup what it reads */
     HERD_OTHER_NOT_WELL_FORMED = 4, /* other table not well-formed; in a comparison the second table */
     HERD_RELATION_OR_REPLICA = 5,   /* relation not 1 to R, or replica not 1 to 255 at start */
     HERD_NOT_SHOWN = 6,             /* record to edit is not shown */
@@ -212,15 +214,16 @@ typedef uint64_t herd_delta[HERD_DELTA_WORDS];
  */
 #define HERD_STACK_VERSION 64
 #define HERD_STACK_SCHEMA_CHECK 192
-#define HERD_STACK_TABLE_CHECK 192
+#define HERD_STACK_TABLE_CHECK 384
 #define HERD_STACK_START 128
-#define HERD_STACK_MERGE 384
-#define HERD_STACK_COMPARE 320
+#define HERD_STACK_MERGE 512
+#define HERD_STACK_COMPARE 512
+#define HERD_STACK_LOOKUP 320
 #define HERD_STACK_INSERT 119232
 #define HERD_STACK_UPDATE 119296
 #define HERD_STACK_DELETE 119168
 #define HERD_STACK_MARKS 110976
-#define HERD_STACK_WALK 256
+#define HERD_STACK_WALK 448
 #define HERD_STACK_VALUES 64
 #define HERD_STACK 119296 /* the largest of them */
 
@@ -276,6 +279,22 @@ HERD_CALL uint64_t herd_merge(const uint64_t *schema, size_t schema_words, uint6
  */
 HERD_CALL uint64_t herd_compare(const uint64_t *schema, size_t schema_words, const uint64_t *first, size_t first_words,
                                 const uint64_t *second, size_t second_words, uint64_t *verdict);
+
+/*
+ * Looks up a record by relation and label. It is known if the table holds it, shown or not: a deleted or hidden record is known too.
+ * The call walks the chain of the relation from its oldest record on, and stops at the label, at a larger one, or at the end. Its time
+ * grows with the records of the relation that are older than the label, and not with those of other relations. On a well-formed table
+ * its yes or no is that of a search through all records.
+ * Use it to ask whether a record is known, and for the index that herd_update and herd_delete take; of a record that is not shown these
+ * answer HERD_NOT_SHOWN themselves, and herd_marks tells which are shown. It is no table check: damage behind the last record read, on
+ * other chains or above the used records is not seen. Check a table that was stored or received first (herd_table_check).
+ * Needs: relation 1 to R. The label is any number; one that is no label, as HERD_NONE, is not known.
+ * Answers: 0, 1, 2, 3, 5. Here 3 is about what is read: a word of the header, a first index above used, a chain above R that is not
+ * empty, or a record on the way, the last one included. For a relation that is not 1 to R no record is read.
+ * Changes: *index, the record's index, 1 to used; 0 where it is not known, and in a refusal.
+ */
+HERD_CALL uint64_t herd_lookup(const uint64_t *schema, size_t schema_words, const uint64_t *table, size_t table_words, size_t relation,
+                               herd_label label, uint64_t *index);
 
 /*
  * Inserts a record, at index used + 1. Its label is the clock + 1 with the own replica number; the clock rises by 1.

@@ -11,7 +11,8 @@
  *
  * A record has a label and an index. The label is given when it is entered, and is the same in all tables: records name each other by
  * it. The index is where the record stands in one table, and stays there; change and strike take it. A record just entered has the index
- * own[HERD_USED_WORD]; herd_walk gives the index of each shown record, and book_find_milking that of a milking.
+ * own[HERD_USED_WORD]; herd_walk gives the index of each shown record, book_find_milking that of a shown milking, and herd_lookup, with
+ * HERDBOOK_SCHEMA and the kind, that of any record, shown or not.
  *
  * To enter is herd_insert under HERDBOOK_SCHEMA, to change is herd_update, to strike off is herd_delete, each with its answers.
  *   - HERD_NOT_SHOWN (6) is also the answer for a record of another kind, as for a cow that book_strike_robot is to strike off.
@@ -80,7 +81,7 @@ enum herdbook_treatment_field {
     HERDBOOK_TREATMENT_LAST = 3   /* the last minute in which her milk is withheld */
 };
 
-/* The schema, for herd_merge, herd_compare, herd_marks, herd_walk and herd_table_check. */
+/* The schema, for herd_merge, herd_compare, herd_lookup, herd_marks, herd_walk and herd_table_check. */
 static const herd_schema HERDBOOK_SCHEMA = {
     6,
     HERD_RELATION(HERD_FIELD(HERDBOOK_GROUP_NUMBER), 0, HERD_PLAIN),

@@ -195,6 +195,11 @@ static void call_compare(void)
     answer = herd_compare(schema, HERD_SCHEMA_WORDS, own, WORDS, other, WORDS, &verdict);
 }
 
+static void call_lookup(void)
+{
+    answer = herd_lookup(schema, HERD_SCHEMA_WORDS, own, WORDS, relation, label, &given);
+}
+
 static void call_insert(void)
 {
     answer = herd_insert(schema, HERD_SCHEMA_WORDS, own, WORDS, delta, HERD_DELTA_WORDS, relation, values, value_count, &label);
@@ -290,6 +295,7 @@ static struct measured calls[] = {
     {"herd_start", call_start, HERD_STACK_START, 0},
     {"herd_merge", call_merge, HERD_STACK_MERGE, 0},
     {"herd_compare", call_compare, HERD_STACK_COMPARE, 0},
+    {"herd_lookup", call_lookup, HERD_STACK_LOOKUP, 0},
     {"herd_insert", call_insert, HERD_STACK_INSERT, 0},
     {"herd_update", call_update, HERD_STACK_UPDATE, 0},
     {"herd_delete", call_delete, HERD_STACK_DELETE, 0},
@@ -399,6 +405,37 @@ static void measure_compares(void)
     measure(call_compare, HERD_OTHER_NOT_WELL_FORMED);
     own[HERD_RECORD(N) + HERD_NEXT_WORD] = 1;
     measure(call_compare, HERD_OWN_NOT_WELL_FORMED);
+}
+
+/* Looks up a label of the own table, which must give this index. */
+static void measure_index(uint64_t of, uint64_t counter, uint64_t expected)
+{
+    relation = of;
+    label = HERD_LABEL(counter, 1);
+    measure(call_lookup, HERD_DONE);
+    if (given != expected) {
+        fprintf(stderr, "stack: herd_lookup gave index %d, and %d is expected\n", (int)given, (int)expected);
+        exit(2);
+    }
+}
+
+/* The chain of milkings is the longest, and pens have the most fields. */
+static void measure_lookups(void)
+{
+    fill(own, N, 0, 1);
+    measure_index(PEN, LAST_PEN, LAST_PEN);
+    measure_index(MILKING, LAST_COW + 1, LAST_COW + 1);
+    measure_index(MILKING, N, N);
+    measure_index(MILKING, N + 1, 0);
+    measure_index(MILKING, 1, 0);
+    relation = PEN + 1;
+    measure(call_lookup, HERD_RELATION_OR_REPLICA);
+    relation = MILKING;
+    label = HERD_LABEL(N, 1);
+    own[HERD_RECORD(N) + HERD_NEXT_WORD] = N + 1;
+    measure(call_lookup, HERD_OWN_NOT_WELL_FORMED);
+    own[HERD_REPLICA_WORD] = 0;
+    measure(call_lookup, HERD_OWN_NOT_WELL_FORMED);
 }
 
 static void measure_edits(void)
@@ -532,6 +569,7 @@ int main(int count, char **arguments)
     measure_reads();
     measure_merges();
     measure_compares();
+    measure_lookups();
     measure_edits();
     measure_book();
     for (at = 0; at < CALLS; at++) {

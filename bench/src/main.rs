@@ -6,8 +6,8 @@ mod picture;
 mod tables;
 
 use herd::layout::{
-    record_word, CLOCK_WORD, DELTA_WORDS, FIELDS, FLAG_WORD, HEAD_WORDS, LABEL_WORD,
-    MOST_KEY_FIELDS, MOST_RECORDS, RELATION_WORD, REPLICA_WORD, USED_WORD,
+    record_word, CLOCK_WORD, DELTA_WORDS, FIELDS, FIRST_WORDS, FLAG_WORD, HEAD_WORDS, LABEL_WORD,
+    MOST_KEY_FIELDS, MOST_RECORDS, NEXT_WORD, RELATION_WORD, REPLICA_WORD, USED_WORD,
 };
 use herd::{book, raw, Compared, Label};
 use second::random::Random;
@@ -237,6 +237,89 @@ fn flags(x: &Subject) -> (Vec<u64>, Vec<u64>) {
 /// The two tables of a merge.
 fn shared(x: &Subject) -> (Vec<u64>, Vec<u64>) {
     (x.own.clone(), x.other.clone())
+}
+
+/// The indices of the records of a relation, from the oldest on.
+fn chain(table: &[u64], relation: usize) -> Vec<u64> {
+    let some = |index: u64| Some(index).filter(|index| *index != 0);
+    let next = |index: &u64| some(table[record_word(*index as usize) + NEXT_WORD]);
+    std::iter::successors(some(table[FIRST_WORDS + relation - 1]), next).collect()
+}
+
+/// What is looked up in a chain: a label, and the index that it gives.
+type Wanted = fn(&[u64], &[u64]) -> (u64, u64);
+
+fn label_of(table: &[u64], index: u64) -> u64 {
+    table[record_word(index as usize) + LABEL_WORD]
+}
+
+fn first_label(table: &[u64], chain: &[u64]) -> (u64, u64) {
+    (label_of(table, chain[0]), chain[0])
+}
+
+fn last_label(table: &[u64], chain: &[u64]) -> (u64, u64) {
+    let last = chain[chain.len() - 1];
+    (label_of(table, last), last)
+}
+
+/// A label that no record has, after that of the middle record and before the next one's.
+fn absent_label(table: &[u64], chain: &[u64]) -> (u64, u64) {
+    let middle = label_of(table, chain[chain.len() / 2]);
+    (middle / 256 * 256 + Label::LARGEST_REPLICA, 0)
+}
+
+/// A label looked up in a relation of a full table, several times in a timing; the plain figure is the check of the same table, timed in
+/// turn with the lookup.
+fn lookups(call: &'static str, subjects: &[Subject], relation: usize, wanted: Wanted) -> Line {
+    const CALLS: usize = 20;
+    fn many(mut call: impl FnMut()) -> impl FnMut(&mut ()) {
+        move |_| (0..CALLS).for_each(|_| call())
+    }
+    line(call, "table check", subjects, |x, size| {
+        let (label, expected) = wanted(&x.full, &chain(&x.full, relation));
+        let mut index = 0;
+        assert_eq!(raw::lookup(&x.schema, &x.full, relation, label, &mut index), 0);
+        let second = |table: &[u64]| second::lookup(&x.schema, table, relation as u64, label);
+        assert_eq!((index, second(&x.full)), (expected, Ok(expected)));
+        let (library, check) = in_turn(
+            5 * times(size),
+            || (),
+            many(|| {
+                black_box(raw::lookup(&x.schema, black_box(&x.full), relation, label, &mut 0));
+            }),
+            many(|| {
+                black_box(raw::table_check(&x.schema, black_box(&x.full)));
+            }),
+        );
+        let second = timed(
+            12,
+            || (),
+            many(|| {
+                let _ = black_box(second(black_box(&x.full)));
+            }),
+        );
+        (library / CALLS as f64, second / CALLS as f64, check / CALLS as f64)
+    })
+}
+
+/// The cows of a barn, tables that are one chain, and a short chain beside a longer one.
+fn all_lookups(
+    barns: &[Subject],
+    [keys, buckets, chains]: [&[Subject]; 3],
+    shorts: &[Subject],
+) -> Vec<Line> {
+    const LAST: &str = "lookup, last label";
+    let mut lines = Vec::new();
+    for (subjects, relation) in [(barns, book::COW), (keys, tables::ONLY)] {
+        lines.push(lookups("lookup, first label", subjects, relation, first_label));
+        lines.push(lookups(LAST, subjects, relation, last_label));
+        lines.push(lookups("lookup, no such label", subjects, relation, absent_label));
+    }
+    for subjects in [buckets, chains] {
+        lines.push(lookups(LAST, subjects, tables::ONLY, last_label));
+    }
+    lines.push(lookups(LAST, shorts, tables::SHORT, last_label));
+    lines
 }
 
 fn marks(subjects: &[Subject]) -> Line {
@@ -632,6 +715,7 @@ fn main() {
     let buckets: Vec<Subject> = SIZES.map(tables::bucket_subject).into();
     let chains: Vec<Subject> = SIZES.map(tables::chain_subject).into();
     let boths: Vec<Subject> = SIZES.map(tables::both_subject).into();
+    let shorts: Vec<Subject> = SIZES.map(tables::short_subject).into();
     let mut lines = vec![schemas(&barns)];
     lines.extend([&barns, &keys, &buckets, &chains].map(|subjects| checks(subjects)));
     lines.push(starts(&barns));
@@ -644,6 +728,7 @@ fn main() {
             .map(|subjects| compares("compare, alike", subjects, copies, Compared::Alike)),
     );
     lines.push(compares("compare, neither", &barns, shared, Compared::Neither));
+    lines.extend(all_lookups(&barns, [&keys, &buckets, &chains], &shorts));
     lines.extend([&barns, &keys, &buckets, &chains, &boths].map(|subjects| marks(subjects)));
     lines.extend([&barns, &keys, &buckets].map(|subjects| walks(subjects)));
     lines.push(values(&barns));

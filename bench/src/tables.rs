@@ -23,6 +23,11 @@ pub struct Subject {
 /// The relation of the tables that have one.
 pub const ONLY: usize = 1;
 
+/// The relations of the tables with a short chain, of which one has so many records at each size.
+pub const SHORT: usize = 1;
+const LONG: usize = 2;
+const SHORT_RECORDS: usize = 32;
+
 fn built(schema: SchemaBuilder) -> Vec<u64> {
     schema.build().expect("the schema is not broken").words().to_vec()
 }
@@ -125,6 +130,20 @@ pub fn keys_subject(capacity: usize) -> Subject {
         .collect();
     let schema = SchemaBuilder::new().relation().plain().plain().plain().key(&[1]).key(&[2]);
     shared("two keys", built(schema), capacity, records, &mut random)
+}
+
+/// A chain of 32 records at each size, which stand anywhere between those of another chain.
+pub fn short_subject(capacity: usize) -> Subject {
+    let mut random = Random::new(13);
+    let mut relations = vec![LONG; capacity];
+    relations[..SHORT_RECORDS].fill(SHORT);
+    random.shuffle(&mut relations);
+    let records = (1..=capacity as u64)
+        .zip(relations)
+        .map(|(at, of)| record(of as u64, label_of(at, 1 + at % 3), 0, &[at, 7 * at]))
+        .collect();
+    let schema = SchemaBuilder::new().relation().plain().plain().relation().plain().plain();
+    shared("short chain", built(schema), capacity, records, &mut random)
 }
 
 /// Values that are different and have one sum of their halves: they have the same digest.

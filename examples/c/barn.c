@@ -66,12 +66,11 @@ static void print_verdict(const uint64_t *robot, const uint64_t *office)
     printf("robot, office: %s\n", herd_verdict_text(verdict));
 }
 
-/* The index of the record with this label. */
+/* The index of the record with this label, 0 if the table does not hold it. */
 static size_t find(const uint64_t *table, size_t relation, herd_label label)
 {
-    uint64_t index = table[HERD_FIRST_WORDS + relation - 1];
-    while (index != 0 && table[HERD_RECORD(index) + HERD_LABEL_WORD] != label)
-        index = table[HERD_RECORD(index) + HERD_NEXT_WORD];
+    uint64_t index;
+    must("lookup", herd_lookup(FARM, HERD_SCHEMA_WORDS, table, WORDS, relation, label, &index));
     return (size_t)index;
 }
 

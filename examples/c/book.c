@@ -40,20 +40,15 @@ static void merge(uint64_t *own, const uint64_t *received, size_t words)
     must("merge", herd_merge(HERDBOOK_SCHEMA, HERD_SCHEMA_WORDS, own, WORDS, received, words, &changed));
 }
 
-/* The index of a shown record, 0 if there is none; of a milking book_find_milking gives it. */
-static size_t find(const uint64_t *table, uint64_t kind, herd_label label)
+/* The index of a record, 0 if the table does not hold it. */
+static size_t find(const uint64_t *table, size_t kind, herd_label label)
 {
-    uint8_t marks[RECORDS];
-    uint64_t shown, place = 0, given;
-    must("marks", herd_marks(HERDBOOK_SCHEMA, HERD_SCHEMA_WORDS, table, WORDS, marks, RECORDS, &shown));
-    do {
-        must("walk", herd_walk(HERDBOOK_SCHEMA, HERD_SCHEMA_WORDS, table, WORDS, marks, RECORDS, &place, &given));
-        if (given != 0 && table[HERD_RECORD(given) + HERD_RELATION_WORD] == kind && table[HERD_RECORD(given) + HERD_LABEL_WORD] == label)
-            return (size_t)given;
-    } while (given != 0);
-    return 0;
+    uint64_t index;
+    must("lookup", herd_lookup(HERDBOOK_SCHEMA, HERD_SCHEMA_WORDS, table, WORDS, kind, label, &index));
+    return (size_t)index;
 }
 
+/* The index of a shown milking, 0 if there is none. */
 static size_t find_milking(const uint64_t *table, herd_label label)
 {
     uint64_t index;

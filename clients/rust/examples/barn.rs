@@ -34,19 +34,6 @@ fn print_list(name: &str, schema: &Schema, table: &Table<Words>) -> Result<Vec<S
     Ok(lines)
 }
 
-/// The index of a shown record, 0 if there is none.
-fn find(
-    schema: &Schema,
-    table: &Table<Words>,
-    relation: usize,
-    label: Label,
-) -> Result<usize, Error> {
-    let marks = Marks::of(schema, table, [0; RECORDS])?;
-    let mut list = table.list(schema, &marks)?;
-    let found = list.find(|record| record.relation == relation && record.label == label);
-    Ok(found.map_or(0, |record| record.index))
-}
-
 /// Merges a table that was received. Whether it brought news: only then the own table is sent on.
 fn brings_news(
     name: &str,
@@ -86,7 +73,7 @@ fn main() -> Result<(), Error> {
     robot.insert(&schema, &mut delta, MILKING, &[cow.word(), 9_000])?;
     robot.insert(&schema, &mut delta, COW, &[41, group.word()])?;
     office.insert(&schema, &mut delta, COW, &[41, Label::NONE])?;
-    let index = find(&schema, &office, GROUP, group)?;
+    let index = office.find(&schema, GROUP, group)?.expect("the office has the group");
     office.update(&schema, &mut delta, index, 1, 14)?;
 
     // The link is back: merge both ways, until a merge brings no news. The older cow 41 keeps the tag.
@@ -98,7 +85,7 @@ fn main() -> Result<(), Error> {
     let agree = print_list("robot", &schema, &robot)? == print_list("office", &schema, &office)?;
 
     // The office deletes cow 40, and sends the delta alone. The cow's milking leaves the list with it.
-    let index = find(&schema, &office, COW, cow)?;
+    let index = office.find(&schema, COW, cow)?.expect("the office has the cow");
     office.delete(&schema, &mut delta, index)?;
     print_verdict(&schema, &robot, &office)?;
     robot.merge(&schema, &delta)?;

@@ -15,14 +15,7 @@ fn refused<T>(what: &str, told: Result<T, Error>) {
     }
 }
 
-/// The index of a shown record, 0 if there is none; of a milking [`book::find_milking`] gives it.
-fn find(table: &Table<Words>, kind: usize, label: Label) -> Result<usize, Error> {
-    let marks = Marks::of(&SCHEMA, table, [0; RECORDS])?;
-    let mut list = table.list(&SCHEMA, &marks)?;
-    let found = list.find(|record| record.relation == kind && record.label == label);
-    Ok(found.map_or(0, |record| record.index))
-}
-
+/// The index of a shown milking, 0 if there is none.
 fn find_milking(table: &Table<Words>, label: Label) -> Result<usize, Error> {
     let index = book::find_milking(table, label)?.unwrap_or(0);
     println!("the milking: index {index}");
@@ -82,11 +75,11 @@ fn main() -> Result<(), Error> {
     // A transponder that is taken; a milking that is no cow; a group with cows in it.
     refused("a second cow 982", book::enter_cow(&mut office, &mut delta, 4714, 982, None));
     refused("a milking as a cow", book::strike_cow(&mut office, &mut delta, index));
-    let index = find(&office, book::GROUP, group)?;
+    let index = office.find(&SCHEMA, book::GROUP, group)?.expect("the office has the group");
     refused("the group", book::strike_group(&mut office, &mut delta, index));
 
     // Cow 4711 is struck off; her milking and her treatment leave the list with her.
-    let index = find(&office, book::COW, cow)?;
+    let index = office.find(&SCHEMA, book::COW, cow)?.expect("the office has the cow");
     book::strike_cow(&mut office, &mut delta, index)?;
     find_milking(&office, milking)?;
     print_list("office", &office)

@@ -2,13 +2,14 @@
 //!
 //! The kinds of records and their fields are fixed ([`SCHEMA`]). For each kind one call enters a
 //! record, one changes a field of a record, and one strikes a record off; [`find_milking`] finds a
-//! milking by its label. The table is a [`Table`]: it is started, merged, compared and listed as any
-//! other, under [`SCHEMA`].
+//! shown milking by its label. The table is a [`Table`]: it is started, merged, compared, searched
+//! and listed as any other, under [`SCHEMA`].
 //!
 //! A record has a label and an index. The label is given when it is entered, and is the same in all
 //! tables: records name each other by it. The index is where the record stands in one table, and
 //! stays there; the calls that change and strike off take it. A record just entered has the index
-//! [`Table::used`]; a [`List`](crate::List) gives the index of each shown record.
+//! [`Table::used`]; a [`List`](crate::List) gives the index of each shown record, and
+//! [`Table::find`] that of any record, by kind and label.
 //!
 //! To enter is [`Table::insert`] under the schema, to change is [`Table::update`], to strike off is
 //! [`Table::delete`], each with its refusals. [`Error::NotShown`] is also the refusal of a record of
@@ -116,7 +117,8 @@ pub const TREATMENT_FIRST: usize = 2;
 /// The fields of a treatment: the last minute in which her milk is withheld.
 pub const TREATMENT_LAST: usize = 3;
 
-/// The schema, for [`Table::merge`], [`Table::compare`], [`Marks`](crate::Marks) and [`Table::list`].
+/// The schema, for [`Table::merge`], [`Table::compare`], [`Table::find`], [`Marks`](crate::Marks)
+/// and [`Table::list`].
 ///
 /// ```
 /// use herd::{book, Error, Kind, Schema};

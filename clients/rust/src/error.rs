@@ -20,7 +20,8 @@ pub enum Error {
     LengthOrIndex,
     /// The schema is broken.
     SchemaBroken,
-    /// The own table, in a comparison the first, is not well-formed.
+    /// The own table, in a comparison the first, is not well-formed; in a search for a record, what
+    /// it reads of the table.
     OwnNotWellFormed,
     /// The other table, in a comparison the second, is not well-formed.
     OtherNotWellFormed,

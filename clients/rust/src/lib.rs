@@ -10,6 +10,7 @@
 //! - [`Table`] is started, edited and merged; each edit writes a [`Delta`], which is enough to bring
 //!   it to the other replicas; a merge tells how many records it changed.
 //! - [`Table::compare`] tells of two copies which one must take in the other, as [`Compared`].
+//! - [`Table::find`] tells whether a record is known, by relation and label, and its index.
 //! - [`Marks`] say which records are shown, and [`List`] reads them in order.
 //! - [`words_to_bytes`] and [`words_from_bytes`] are for files and messages.
 //! - [`version_fits`] tells whether the linked library fits this crate; ask it at start-up.

@@ -37,6 +37,15 @@ mod c {
             second_words: usize,
             verdict: *mut u64,
         ) -> u64;
+        pub fn herd_lookup(
+            schema: *const u64,
+            schema_words: usize,
+            table: *const u64,
+            table_words: usize,
+            relation: usize,
+            label: u64,
+            index: *mut u64,
+        ) -> u64;
         pub fn herd_insert(
             schema: *const u64,
             schema_words: usize,
@@ -155,6 +164,25 @@ pub fn compare(schema: &[u64], first: &[u64], second: &[u64], verdict: &mut u64)
             second.as_ptr(),
             second.len(),
             verdict,
+        )
+    }
+}
+
+/// Looks up a record along the chain of its relation: 0, 1, 2, 3 or 5. `index` becomes its index, 0
+/// where the table does not hold it and in a refusal. Any number may be asked for; one that is no
+/// label is not known. It is no table check: what the walk does not read is not seen.
+pub fn lookup(schema: &[u64], table: &[u64], relation: usize, label: u64, index: &mut u64) -> u64 {
+    // SAFETY: each pointer and length are those of a borrowed slice, which the call only reads;
+    // `index` is borrowed for writing, so that it overlaps nothing else.
+    unsafe {
+        c::herd_lookup(
+            schema.as_ptr(),
+            schema.len(),
+            table.as_ptr(),
+            table.len(),
+            relation,
+            label,
+            index,
         )
     }
 }

@@ -214,6 +214,57 @@ impl<W: AsRef<[u64]>> Table<W> {
         Ok(Compared::from_number(verdict).unwrap_or(Compared::Neither))
     }
 
+    /// Finds a record by relation and label: its index, or none if this table does not hold it. A
+    /// record is found shown or not, also once it is deleted; [`update`](Table::update) and
+    /// [`delete`](Table::delete) refuse one that is not shown themselves, and [`Marks`] tell which
+    /// are.
+    ///
+    /// The walk goes along the chain of the relation from its oldest record on, and stops at the
+    /// label, at a larger one, or at the end. The time grows with the records of the relation that
+    /// are older than the label, and not with those of other relations.
+    ///
+    /// It is no table check: of the words it reads the header and the records on the way.
+    ///
+    /// Refusals: [`Error::LengthOrIndex`], [`Error::OwnNotWellFormed`],
+    /// [`Error::RelationOrReplica`].
+    ///
+    /// ```
+    /// use herd::{table_words, Delta, Error, Label, SchemaBuilder, Table};
+    ///
+    /// const COW: usize = 1;
+    /// const ROBOT: usize = 2;
+    /// let schema = SchemaBuilder::new().relation().plain().relation().plain().build()?;
+    /// let mut table = Table::start([0; table_words(4)], 1)?;
+    /// let mut delta = Delta::new();
+    /// let cow = table.insert(&schema, &mut delta, COW, &[40])?;
+    ///
+    /// // By this label a cow is known, and no robot is; another cow is not known.
+    /// assert_eq!(table.find(&schema, COW, cow)?, Some(1));
+    /// assert_eq!(table.find(&schema, ROBOT, cow)?, None);
+    /// let other = Label::of(9, 1).unwrap();
+    /// assert_eq!(table.find(&schema, COW, other)?, None);
+    ///
+    /// // An edit takes the index. A deleted cow stays known.
+    /// if let Some(index) = table.find(&schema, COW, cow)? {
+    ///     table.delete(&schema, &mut delta, index)?;
+    /// }
+    /// assert_eq!(table.find(&schema, COW, cow)?, Some(1));
+    /// assert_eq!(table.delete(&schema, &mut delta, 1), Err(Error::NotShown));
+    ///
+    /// assert_eq!(table.find(&schema, 3, cow), Err(Error::RelationOrReplica));
+    /// # Ok::<(), Error>(())
+    /// ```
+    pub fn find<S: AsRef<[u64]>>(
+        &self,
+        schema: &Schema<S>,
+        relation: usize,
+        label: Label,
+    ) -> Result<Option<usize>, Error> {
+        let mut index = 0;
+        told(raw::lookup(schema.words(), self.words(), relation, label.word(), &mut index))?;
+        Ok(Some(index as usize).filter(|index| *index != 0))
+    }
+
     fn word(&self, at: usize) -> u64 {
         self.words().get(at).copied().unwrap_or(0)
     }

@@ -192,6 +192,17 @@ fn a_record_of_another_kind_is_refused() {
 }
 
 #[test]
+fn every_kind_is_known_by_its_label() {
+    let both = barn();
+    for (kind, index) in (1..).zip(INDICES) {
+        for other in INDICES {
+            let found = both.table.find(&SCHEMA, kind, Label::of(other as u64, 1).unwrap());
+            assert_eq!(found, Ok(Some(index).filter(|index| *index == other)));
+        }
+    }
+}
+
+#[test]
 fn a_milking_is_found_while_it_is_shown() {
     let mut both = barn();
     let label = |counter| Label::of(counter, 1).unwrap();
@@ -201,6 +212,8 @@ fn a_milking_is_found_while_it_is_shown() {
     }
     book::strike_cow(&mut both.table, &mut both.delta, COW).unwrap();
     assert_eq!(book::find_milking(&both.table, label(4)), Ok(None));
+    // It is known all the same.
+    assert_eq!(both.table.find(&SCHEMA, book::MILKING, label(4)), Ok(Some(MILKING)));
     // A table of another schema, whose first relation has two fields.
     let other = SchemaBuilder::new().relation().plain().plain().build().unwrap();
     let mut table = Table::start([0; table_words(4)], 1).unwrap();

@@ -3,7 +3,7 @@
 
 use herd::layout::{
     record_word, CLOCK_WORD, FIRST_WORDS, FLAG_WORD, HEADER_WORDS, HEAD_WORDS, LABEL_WORD,
-    RELATION_WORD, REPLICA_WORD, USED_WORD,
+    NEXT_WORD, RELATION_WORD, REPLICA_WORD, USED_WORD,
 };
 use herd::{
     raw, table_words, words_from_bytes, words_to_bytes, Compared, Delta, Error, Kind, Label, Marks,
@@ -16,6 +16,7 @@ use second::vectors::{random_edit, Edit};
 
 const GROUP: usize = 1;
 const COW: usize = 2;
+const MILKING: usize = 3;
 
 const FARM: SchemaBuilder = SchemaBuilder::new()
     .relation()
@@ -369,6 +370,195 @@ fn every_verdict_has_its_number_and_its_text() {
     assert_eq!(texts.len(), Compared::ALL.len());
 }
 
+/// The label of a counter and a replica.
+fn label(counter: u64, replica: u64) -> Label {
+    Label::of(counter, replica).unwrap()
+}
+
+#[test]
+fn a_record_is_found_by_relation_and_label() {
+    let schema = farm();
+    let table = group_and_cow(3);
+    assert_eq!(table.find(&schema, GROUP, label(1, 1)), Ok(Some(1)));
+    assert_eq!(table.find(&schema, COW, label(2, 1)), Ok(Some(2)));
+    // The label of a record of another relation, in a relation without records too.
+    assert_eq!(table.find(&schema, GROUP, label(2, 1)), Ok(None));
+    assert_eq!(table.find(&schema, COW, label(1, 1)), Ok(None));
+    assert_eq!(table.find(&schema, MILKING, label(1, 1)), Ok(None));
+    // A table without records, and one without room for any.
+    for capacity in [0, 1] {
+        let empty = Table::start(vec![0; table_words(capacity)], 1).unwrap();
+        assert_eq!(empty.find(&schema, COW, label(1, 1)), Ok(None));
+    }
+}
+
+/// A table of cows with the labels 1.6, 1.2 and 1.4, in this order.
+fn three_cows() -> Table<Vec<u64>> {
+    let schema = farm();
+    let mut table = Table::start(vec![0; table_words(4)], 9).unwrap();
+    for replica in [6, 2, 4] {
+        let mut other = Table::start([0; table_words(1)], replica).unwrap();
+        other.insert(&schema, &mut Delta::new(), COW, &[40 + replica, 0]).unwrap();
+        table.merge(&schema, &other).unwrap();
+    }
+    table
+}
+
+#[test]
+fn a_record_is_found_wherever_it_stands() {
+    let schema = farm();
+    let table = three_cows();
+    for (replica, index) in [(6, 1), (2, 2), (4, 3)] {
+        assert_eq!(table.find(&schema, COW, label(1, replica)), Ok(Some(index)));
+    }
+    // Labels before the first of the chain, between two, and after the last.
+    for replica in [1, 3, 5, 7, 255] {
+        assert_eq!(table.find(&schema, COW, label(1, replica)), Ok(None));
+    }
+    assert_eq!(table.find(&schema, COW, label(Label::LARGEST_COUNTER, 255)), Ok(None));
+}
+
+#[test]
+fn a_record_that_is_not_shown_is_found() {
+    let (schema, mut delta) = (farm(), Delta::new());
+    let mut table = group_and_cow(5);
+    // Deleted.
+    table.delete(&schema, &mut delta, 2).unwrap();
+    assert_eq!(table.find(&schema, COW, label(2, 1)), Ok(Some(2)));
+    // Younger than another with its key.
+    let cow = |replica| {
+        let mut other = Table::start([0; table_words(1)], replica).unwrap();
+        other.insert(&schema, &mut Delta::new(), COW, &[41, 0]).unwrap();
+        other
+    };
+    table.merge(&schema, &cow(2)).unwrap();
+    table.merge(&schema, &cow(3)).unwrap();
+    // Incomplete, with flag 0 and no stamps.
+    let mut bare = Table::start([0; table_words(1)], 4).unwrap().into_words();
+    (bare[CLOCK_WORD], bare[USED_WORD], bare[FIRST_WORDS]) = (1, 1, 1);
+    bare[record_word(1) + RELATION_WORD] = GROUP as u64;
+    bare[record_word(1) + LABEL_WORD] = label(1, 4).word();
+    table.merge(&schema, &bare).unwrap();
+    assert_eq!(lines(&schema, &table), ["1 1.1 12", "2 1.2 41 -"]);
+    assert_eq!(table.find(&schema, COW, label(1, 2)), Ok(Some(3)));
+    assert_eq!(table.find(&schema, COW, label(1, 3)), Ok(Some(4)));
+    assert_eq!(table.find(&schema, GROUP, label(1, 4)), Ok(Some(5)));
+}
+
+/// The answer and the index of a lookup in these words.
+fn looked_up(table: &[u64], relation: usize, label: u64) -> (u64, u64) {
+    let mut index = 7;
+    (raw::lookup(farm().words(), table, relation, label, &mut index), index)
+}
+
+#[test]
+fn any_number_may_be_looked_up() {
+    let table = three_cows();
+    let cow = label(1, 6).word();
+    assert_eq!(looked_up(table.words(), COW, cow), (0, 1));
+    for number in [Label::NONE, 1, 255, 256, 512, cow + (1 << 48), 1 << 48, u64::MAX] {
+        assert_eq!(looked_up(table.words(), COW, number), (0, 0), "{number}");
+    }
+}
+
+/// Words with one of them changed.
+fn with(words: &[u64], at: usize, word: u64) -> Vec<u64> {
+    let mut changed = words.to_vec();
+    changed[at] = word;
+    changed
+}
+
+#[test]
+fn a_lookup_sees_each_word_of_the_records_that_it_reads() {
+    let words = three_cows().into_words();
+    // The chain goes from record 2 to 3 to 1. The middle one is damaged.
+    let (first, middle, last) = (label(1, 2).word(), label(1, 4).word(), label(1, 6).word());
+    let at = record_word(3);
+    let (value, stamp) = (at + HEAD_WORDS, at + HEAD_WORDS + FIELDS);
+    let damages = [
+        (at + NEXT_WORD, 4),                   // above used
+        (at + RELATION_WORD, GROUP as u64),    // of another relation
+        (at + LABEL_WORD, 0),                  // no label
+        (at + LABEL_WORD, first),              // not above the one before
+        (at + LABEL_WORD, label(2, 4).word()), // a counter above the clock
+        (at + FLAG_WORD, 65_536),
+        (value + 1, 1),                  // a reference that is no label
+        (value + 1, label(2, 1).word()), // a counter above the clock
+        (value + 2, 1),                  // above the fields of a cow
+        (stamp, 0),                      // a value without a stamp
+        (stamp, 1),                      // no label
+        (stamp, label(2, 1).word()),     // a counter above the clock
+        (stamp + 2, first),              // above the fields of a cow
+    ];
+    for (at, word) in damages {
+        let damaged = with(&words, at, word);
+        // It is seen where the walk ends with it or goes on, and not where it ends before.
+        for wanted in [first + 1, middle, middle + 1, last, last + 1, u64::MAX] {
+            assert_eq!(looked_up(&damaged, COW, wanted), (3, 0), "{at} {word} {wanted}");
+        }
+        assert_eq!(looked_up(&damaged, COW, first), (0, 2));
+        assert_eq!(looked_up(&damaged, COW, first - 1), (0, 0));
+        // Nor in another chain; no relation, no record.
+        assert_eq!(looked_up(&damaged, GROUP, middle), (0, 0));
+        assert_eq!(looked_up(&damaged, 4, middle), (5, 0));
+    }
+}
+
+#[test]
+fn a_lookup_is_no_table_check() {
+    let words = three_cows().into_words();
+    let last = label(1, 6).word();
+    // A chain that comes back to a record ends where it does not rise.
+    let ring = with(&words, record_word(1) + NEXT_WORD, 2);
+    assert_eq!(looked_up(&ring, COW, last), (0, 1));
+    assert_eq!(looked_up(&ring, COW, last + 1), (3, 0));
+    // Above the used records, and a record that is on no chain.
+    assert_eq!(looked_up(&with(&words, record_word(4), 9), COW, last + 1), (0, 0));
+    let loose = with(&words, record_word(3) + NEXT_WORD, 0);
+    assert_eq!(looked_up(&loose, COW, last), (0, 0));
+}
+
+#[test]
+fn a_lookup_sees_the_header_of_any_relation() {
+    let words = three_cows().into_words();
+    for relation in [0, GROUP, COW, MILKING, 4, usize::MAX] {
+        for at in 0..HEADER_WORDS {
+            let damaged = with(&words, at, u64::MAX);
+            assert_eq!(looked_up(&damaged, relation, 1), (3, 0), "{relation} {at}");
+        }
+        // No replica; fewer records used than a chain begins with; a chain of relation 4.
+        assert_eq!(looked_up(&with(&words, REPLICA_WORD, 0), relation, 1), (3, 0));
+        assert_eq!(looked_up(&with(&words, USED_WORD, 1), relation, 1), (3, 0));
+        assert_eq!(looked_up(&with(&words, FIRST_WORDS + 3, 1), relation, 1), (3, 0));
+    }
+}
+
+#[test]
+fn a_lookup_refuses_lengths_then_the_schema_then_the_table_then_the_relation() {
+    let (schema, table) = (farm(), three_cows());
+    let other = SchemaBuilder::new().relation().plain().build().unwrap();
+    assert_eq!(table.find(&other, COW, label(1, 2)), Err(Error::OwnNotWellFormed));
+    for relation in [0, 4, usize::MAX] {
+        let told = table.find(&schema, relation, label(1, 2));
+        assert_eq!(told, Err(Error::RelationOrReplica));
+    }
+    // All are wrong at first; the numbers rise as one after the other is mended.
+    let damaged = [0; table_words(2)];
+    let broken = [0; SCHEMA_WORDS];
+    let told = |schema: &[u64], table: &[u64], relation: usize| {
+        let mut index = 7;
+        (raw::lookup(schema, table, relation, label(1, 2).word(), &mut index), index)
+    };
+    assert_eq!(told(&broken[1..], &damaged, 0), (1, 0));
+    assert_eq!(told(&broken, &damaged[1..], 0), (1, 0));
+    assert_eq!(told(&broken, &[], 0), (1, 0));
+    assert_eq!(told(&broken, &vec![0; table_words(MOST_RECORDS + 1)], 0), (1, 0));
+    assert_eq!(told(&broken, &damaged, 0), (2, 0));
+    assert_eq!(told(schema.words(), &damaged, 0), (3, 0));
+    assert_eq!(told(schema.words(), table.words(), 0), (5, 0));
+    assert_eq!(told(schema.words(), table.words(), COW), (0, 2));
+}
+
 #[test]
 fn a_list_of_other_marks_or_another_schema_is_refused() {
     let (schema, table) = (farm(), case(5));
@@ -509,6 +699,12 @@ fn fleets_through_the_types() {
         for table in [&robot, &office] {
             let input = [cases::bytes_of(schema.words()), cases::bytes_of(table.words())].concat();
             assert_eq!(listed(&schema, table), second::list::list(&input));
+            for index in 1..=table.used() {
+                let record = &table.words()[record_word(index)..];
+                let label = Label::from_word(record[LABEL_WORD]).unwrap();
+                let found = table.find(&schema, record[RELATION_WORD] as usize, label);
+                assert_eq!(found, Ok(Some(index)));
+            }
         }
         if merged {
             assert_eq!(robot.compare(&schema, &office), Ok(Compared::Alike));

@@ -1,6 +1,7 @@
 //! Calls on damaged inputs. They work on copies, so that the fleet goes on with its own tables.
 
 use crate::driver::Driver;
+use crate::lookup::lookups;
 use herd::layout::{
     block_word, table_words, DELTA_WORDS, FIELDS, HEADER_WORDS, MOST_RECORDS, RECORD_WORDS,
     USED_WORD,
@@ -108,7 +109,7 @@ impl Damage {
         let mut table = self.table.clone();
         let records = table.len().saturating_sub(HEADER_WORDS) / RECORD_WORDS;
         let count = (records as i64 + self.more_marks).max(0) as usize;
-        match random.below(10) {
+        match random.below(12) {
             0 => {
                 driver.schema_check(schema);
                 driver.table_check(schema, &table);
@@ -132,6 +133,7 @@ impl Damage {
                     random.pick(&[0, 0, 1, 2, 5, 12, 13, MOST_RECORDS as u64 + 1, u64::MAX]);
                 driver.walk(schema, &table, &marks, &mut place);
             }
+            7 | 8 => lookups(driver, random, schema, &table),
             _ => self.edit(driver, random, &mut table),
         }
     }

@@ -1,12 +1,13 @@
 //! Each call on the library and on `second`, compared: the answer, what comes back, and every word.
 
 use crate::lent::{Lending, Lent};
-use herd::layout::{record_word, FLAG_WORD, HEAD_WORDS, USED_WORD};
+use herd::layout::{record_word, FLAG_WORD, HEAD_WORDS, LABEL_WORD, RELATION_WORD, USED_WORD};
 use herd::{raw, Compared};
 use second::random::Random;
 use second::vectors::given;
 use second::{number, Answer};
 use std::collections::BTreeMap;
+use std::fmt::Display;
 
 /// Functions, and the numbers that each may answer.
 pub type Answers = &'static [(&'static str, &'static [u64])];
@@ -18,6 +19,7 @@ pub const ANSWERS: Answers = &[
     ("start", &[0, 1, 5]),
     ("merge", &[0, 1, 2, 3, 4, 11]),
     ("compare", &[0, 1, 2, 3, 4]),
+    ("lookup", &[0, 1, 2, 3, 5]),
     ("insert", &[0, 1, 2, 3, 5, 7, 8, 9, 11, 12, 13]),
     ("update", &[0, 1, 2, 3, 6, 7, 8, 9, 12, 13]),
     ("delete", &[0, 1, 2, 3, 6, 10, 13]),
@@ -25,6 +27,10 @@ pub const ANSWERS: Answers = &[
     ("walk", &[0, 1, 2, 3]),
     ("values", &[0, 1]),
 ];
+
+/// What a lookup that is done says, of a well-formed table and of one with damage that it does not
+/// read.
+pub const LOOKUPS: [&str; 4] = ["known", "unknown", "known_beside_damage", "unknown_beside_damage"];
 
 pub struct Driver {
     lending: Lending,
@@ -35,6 +41,8 @@ pub struct Driver {
     pub changed: BTreeMap<u64, u64>,
     /// How often a comparison gave each verdict.
     pub verdicts: BTreeMap<u64, u64>,
+    /// How often a lookup gave each of [`LOOKUPS`].
+    pub lookups: BTreeMap<&'static str, u64>,
     /// How often a milking was found.
     pub found: u64,
 }
@@ -47,6 +55,7 @@ impl Driver {
             counts: BTreeMap::new(),
             changed: BTreeMap::new(),
             verdicts: BTreeMap::new(),
+            lookups: BTreeMap::new(),
             found: 0,
         }
     }
@@ -76,17 +85,9 @@ impl Driver {
             }
             text.push('\n');
         }
-        for (name, counts) in [("changed", &self.changed), ("verdicts", &self.verdicts)] {
-            if counts.is_empty() {
-                continue;
-            }
-            text.push_str(&format!("{name:<16}"));
-            for (value, count) in counts {
-                text.push_str(&format!(" {value}:{count}"));
-            }
-            text.push('\n');
-        }
-        text
+        text + &counted("changed", &self.changed)
+            + &counted("verdicts", &self.verdicts)
+            + &counted("lookups", &self.lookups)
     }
 
     #[track_caller]
@@ -226,6 +227,34 @@ impl Driver {
         self.count("compare", answer, 0);
     }
 
+    /// The answer and the index.
+    pub fn lookup(
+        &mut self,
+        schema: &[u64],
+        table: &[u64],
+        relation: usize,
+        label: u64,
+    ) -> (u64, u64) {
+        let (lent_schema, lent, mut index) =
+            (self.lend(schema), self.lend(table), self.lend_word());
+        let answer =
+            raw::lookup(lent_schema.part(), lent.part(), relation, label, &mut index.part_mut()[0]);
+        let expected = second::lookup(schema, table, relation as u64, label);
+        assert_eq!(lent_schema.back(), schema);
+        assert_eq!(lent.back(), table);
+        let index = index.back()[0];
+        assert_eq!(index, value_of(&expected));
+        let well_formed = raw::table_check(schema, table) == 0;
+        if well_formed {
+            assert_eq!((answer, index), searched(schema, table, relation, label));
+        }
+        if answer == 0 {
+            let told = LOOKUPS[(index == 0) as usize + 2 * !well_formed as usize];
+            *self.lookups.entry(told).or_insert(0) += 1;
+        }
+        (self.count("lookup", answer, number(&expected)), index)
+    }
+
     /// The answer and the label.
     pub fn insert(
         &mut self,
@@ -362,6 +391,28 @@ impl Driver {
         }
         (self.count("values", answer, expected.is_empty() as u64), first)
     }
+}
+
+/// A line with the count of each value; none without counts.
+fn counted<K: Display>(name: &str, counts: &BTreeMap<K, u64>) -> String {
+    if counts.is_empty() {
+        return String::new();
+    }
+    let each: Vec<String> =
+        counts.iter().map(|(value, count)| format!("{value}:{count}")).collect();
+    format!("{name:<16} {}\n", each.join(" "))
+}
+
+/// The answer and the index of a lookup in a well-formed table, by a search through all records.
+fn searched(schema: &[u64], table: &[u64], relation: usize, label: u64) -> (u64, u64) {
+    if !(1..=schema[0]).contains(&(relation as u64)) {
+        return (5, 0);
+    }
+    let is_wanted = |index: &u64| {
+        let record = &table[record_word(*index as usize)..];
+        record[RELATION_WORD] == relation as u64 && record[LABEL_WORD] == label
+    };
+    (0, (1..=table[USED_WORD]).find(is_wanted).unwrap_or(0))
 }
 
 /// The verdict on two well-formed tables by merges: a table contains another if taking that in is

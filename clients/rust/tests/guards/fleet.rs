@@ -2,6 +2,7 @@
 
 use crate::damage::Damage;
 use crate::driver::Driver;
+use crate::lookup::{each_record, lookups};
 use herd::layout::{record_word, FLAG_WORD, RECORD_WORDS, USED_WORD};
 use herd::Compared;
 use second::cases::{herd, record, COW, GROUP};
@@ -169,7 +170,7 @@ impl Fleet {
 
     fn step(&mut self, driver: &mut Driver, random: &mut Random) {
         let at = random.below(self.tables.len() as u64) as usize;
-        match random.below(40) {
+        match random.below(44) {
             0 => {
                 let replica = random.pick(&[0, 1, 2, 3, 255, 256, u64::MAX]);
                 driver.start(&mut self.tables[at], replica);
@@ -189,6 +190,7 @@ impl Fleet {
                 let other = self.other(random);
                 Damage::of(random, &self.schema, &self.tables[at], other).run(driver, random);
             }
+            24..=27 => lookups(driver, random, &self.schema, &self.tables[at]),
             _ => self.edit(driver, random, at),
         }
     }
@@ -203,6 +205,7 @@ pub fn fleet(driver: &mut Driver, seed: u64, steps: usize) {
     }
     for at in 0..fleet.tables.len() {
         fleet.list(driver, at);
+        each_record(driver, &fleet.schema, &fleet.tables[at]);
     }
 }
 
@@ -265,6 +268,9 @@ pub fn large(driver: &mut Driver, seed: u64, capacity: usize) {
             }
             for index in [1, capacity - 1, capacity, capacity + 1] {
                 driver.values(table, index);
+            }
+            for _ in 0..10 {
+                lookups(driver, &mut random, &fleet.schema, table);
             }
         }
     }

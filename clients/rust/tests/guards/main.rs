@@ -8,14 +8,17 @@ mod damage;
 mod driver;
 mod fleet;
 mod lent;
+mod lookup;
 
 use book::{barn, large_barn};
-use driver::{Answers, Driver, ANSWERS};
+use driver::{Answers, Driver, ANSWERS, LOOKUPS};
 use fleet::{fleet, large};
 use lent::Lending;
+use lookup::each_word_damaged;
 
 const FLEETS: u64 = 600;
 const STEPS: usize = 100;
+const DAMAGED: u64 = 12;
 const BARNS: u64 = 1_500;
 const BARN_STEPS: usize = 16;
 
@@ -30,6 +33,14 @@ fn gave_each(driver: &Driver, all: Answers) {
     assert!(driver.counts.keys().all(|(function, answer)| {
         all.iter().any(|(name, answers)| name == function && answers.contains(answer))
     }));
+}
+
+/// Records were known and not known, in well-formed tables and beside damage.
+fn looked_up_each(driver: &Driver) {
+    for told in LOOKUPS {
+        let count = driver.lookups.get(told).copied().unwrap_or(0);
+        assert!(count >= 10, "lookups that gave {told}: {count}");
+    }
 }
 
 #[test]
@@ -52,6 +63,18 @@ fn fleets_between_guards() {
         let count = driver.verdicts.get(&verdict.number()).copied().unwrap_or(0);
         assert!(count >= 10, "comparisons that gave {verdict:?}: {count}");
     }
+    looked_up_each(&driver);
+}
+
+#[test]
+fn lookups_in_damaged_tables_between_guards() {
+    let mut driver = Driver::new(Lending::Guarded, 5);
+    for seed in 0..DAMAGED {
+        each_word_damaged(&mut driver, seed);
+    }
+    print!("{}", driver.report(ANSWERS));
+    assert!(driver.given("lookup", 3) >= 1_000 && driver.given("lookup", 5) >= 1_000);
+    looked_up_each(&driver);
 }
 
 #[test]
