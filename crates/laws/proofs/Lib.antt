@@ -12,4 +12,3 @@ pub mod Drafts
 pub mod Total
 pub mod OfKind
 pub mod Compared
-pub mod Seek

@@ -17,10 +17,10 @@ use Rattle.model.specs.Schemas.{broken}
 use Rattle.model.specs.WellFormed.{headerRules, firstsRule, emptyAbove, recordRules, countersRule, chainFrom, chainOf, chainStep, rises, chainsRise, onChain, restZero, wellFormed}
 use Rattle.model.specs.Calls.{schemaLength, tableLength, tableNumber}
 use Rattle.model.specs.Lookup.{readRule, Seek, damaged, known, unknown, seekFrom, lookupSeek, isDamaged, isKnown, knownAt, isRelation, lookupNumber, lookupKnown, lookupIndex, searched, OnWay, first, next, Breaks, labelNotRaised, Damage, headerWord, firstIndex, chainAbove, readRecord}
-use Rattle.laws.proofs.Seek.{Read, read-says, bad-breaks, breaks-bad, seek-end, seek-damaged, seek-known, seek-unknown, seek-on}
 use Rattle.wellformed.proofs.Ranges.{parts, each-at, any-at}
 use Rattle.wellformed.proofs.ListRanges.{any-some}
 use Rattle.wellformed.proofs.Facts.{schema-sound, Formed, formed, ruled}
+use Rattle.wellformed.proofs.Seek.{Read, read-says, bad-breaks, breaks-bad, seek-end, seek-damaged, seek-known, seek-unknown, seek-on}
 use Rattle.wellformed.proofs.Chains.{lies, lies-cases, lies-nil, lies-here, lies-there, rises-head, rises-tail, rises-member, rises-one, chain-within, chain-short, chain-in, on-own}
 use Rattle.convergence.proofs.Tables.{Good, good-table}
 

@@ -17,6 +17,7 @@ use Rattle.model.specs.Records.{labelSpan}
 use Rattle.model.specs.WellFormed.{recordRules, countersRule, chainFrom, chainOf, chainStep, rises}
 use Rattle.model.specs.Lookup.{readRule}
 use Rattle.wellformed.proofs.Facts.{label-span, ruled}
+use Rattle.wellformed.proofs.Seek.{read-says}
 use Rattle.table.specs.declared.Stop.the-variants as stop
 use Rattle.table.specs.declared.Walked.the-variants.{Broken, Whole}
 use Rattle.table.specs.Chains.{recordGood, walkedChain, stopFrom, walkedTo, walkedOf}
@@ -87,10 +88,9 @@ unfolding readRule
 read-bad s t r low i e = e
 
 read-good : (s t : List ℕ) (r low i : ℕ) → readRule s t r low i ≡ true → (recordGood s t i ≡ true) × (chainStep t r low i ≡ true) × (labelAt t i < labelSpan)
-unfolding readRule
 read-good s t r low i e =
-    let g = and-left (recordGood s t i) (chainStep t r low i) e in
-    (g, and-right (recordGood s t i) (chainStep t r low i) e, label-span (labelAt t i) (ruled s t i (and-left (recordRules s t i) (countersRule s t i) g) .label) .1)
+    let f = read-says s t r low i e in
+    (and-both (recordRules s t i) (countersRule s t i) (f .ruled) (f .counted), f .stepped, label-span (labelAt t i) (ruled s t i (f .ruled) .label) .1)
 
 both-off : (g c x y : Bool) → (g && c) ≡ false → ((c && x) && (g && y)) ≡ false
 both-off true true x y h = clash refl h

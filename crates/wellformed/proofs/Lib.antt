@@ -11,3 +11,4 @@ pub mod Chains
 pub mod Values
 pub mod Links
 pub mod Encoded
+pub mod Seek

@@ -3,15 +3,16 @@
 use Prim.Native.Nat.{ℕ, zero, suc, _≤_, _<_}
 use mathlib.Core.Path.{_≡_, refl}
 use mathlib.Core.Logic.{_⊎_, inl, inr}
-use mathlib.Core.Bool.{true, false, _&&_}
-use mathlib.Core.List.{List}
+use mathlib.Core.Bool.{true, false}
+use mathlib.Core.List.{List, [], _∷_}
 use native.Mathlib.Omega.{arith}
 use lib.Dec.{eqb, ltb, leb}
 use borrow.Author.Tests.{leb-true, leb-false, eqb-true, eqb-false, ltb-true, ltb-false, lt-ltb, le-ltb, eq-eqb, ne-eqb}
-use Rattle.crdt.proofs.Tests.{test, clash, and-left, and-right}
+use Rattle.crdt.proofs.Tests.{test, clash}
 use Rattle.model.specs.Layout.{usedAt, nextAt, relationAt, labelAt}
 use Rattle.model.specs.WellFormed.{recordRules, countersRule, chainStep}
 use Rattle.model.specs.Lookup.{readRule, damaged, known, unknown, seekFrom, Breaks, ownWords, otherRelation, labelNotRaised, counterAbove, nextAbove}
+use Rattle.wellformed.proofs.Ranges.{parts}
 
 -- what a record that is read and good says
 pub record Read (s t : List ℕ) (r low i : ℕ) : Type 0 where
@@ -27,18 +28,16 @@ module _ (s t : List ℕ) (r low i : ℕ) where
   pub read-says : readRule s t r low i ≡ true → Read s t r low i
   unfolding readRule chainStep
   read-says h =
-      let a = and-left (recordRules s t i && countersRule s t i) (chainStep t r low i) h in
-      let b = and-right (recordRules s t i && countersRule s t i) (chainStep t r low i) h in
-      let c = and-left (leb i (usedAt t) && eqb (relationAt t i) r && ltb low (labelAt t i)) (leb (nextAt t i) (usedAt t)) b in
-      let d = and-left (leb i (usedAt t) && eqb (relationAt t i) r) (ltb low (labelAt t i)) c in
+      let g = parts (recordRules s t i) (countersRule s t i ∷ chainStep t r low i ∷ []) h in
+      let k = parts (leb i (usedAt t)) (eqb (relationAt t i) r ∷ ltb low (labelAt t i) ∷ leb (nextAt t i) (usedAt t) ∷ []) (g .1 .1 .0) in
       record {
-        ruled = and-left (recordRules s t i) (countersRule s t i) a;
-        counted = and-right (recordRules s t i) (countersRule s t i) a;
-        stepped = b;
-        used = leb-true i (usedAt t) (and-left (leb i (usedAt t)) (eqb (relationAt t i) r) d);
-        related = eqb-true (relationAt t i) r (and-right (leb i (usedAt t)) (eqb (relationAt t i) r) d);
-        raised = ltb-true low (labelAt t i) (and-right (leb i (usedAt t) && eqb (relationAt t i) r) (ltb low (labelAt t i)) c);
-        next = leb-true (nextAt t i) (usedAt t) (and-right (leb i (usedAt t) && eqb (relationAt t i) r && ltb low (labelAt t i)) (leb (nextAt t i) (usedAt t)) b);
+        ruled = g .0;
+        counted = g .1 .0;
+        stepped = g .1 .1 .0;
+        used = leb-true i (usedAt t) (k .0);
+        related = eqb-true (relationAt t i) r (k .1 .0);
+        raised = ltb-true low (labelAt t i) (k .1 .1 .0);
+        next = leb-true (nextAt t i) (usedAt t) (k .1 .1 .1 .0);
       }
 
   -- one that is not good, at an index none above used, breaks one of the five rules, and the other way round
