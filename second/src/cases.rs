@@ -2,7 +2,9 @@
 
 use crate::edit::deletion;
 use crate::label::{join_flags, join_registers, label_of, Register};
-use crate::layout::{self, abort, propagation, FIELD_COUNT, KINDS, MASKS, PLAIN, RELATION_COUNT};
+use crate::layout::{
+    self, abort, propagation, Form, FIELD_COUNT, KINDS, NEW, PLAIN, RELATION_COUNT,
+};
 use crate::list::list;
 use crate::number;
 use crate::shown::marks;
@@ -14,25 +16,33 @@ pub const MILKING: u64 = 3;
 
 /// The words of a schema from the kinds and the two masks of each relation.
 pub fn schema_words(relations: &[(&[u64], u64, u64)]) -> Vec<u64> {
-    let mut words = vec![0; layout::SCHEMA];
+    schema_words_in(NEW, relations)
+}
+
+/// The same in a form that has the fields.
+pub fn schema_words_in(form: Form, relations: &[(&[u64], u64, u64)]) -> Vec<u64> {
+    let mut words = vec![0; form.schema()];
     words[RELATION_COUNT] = relations.len() as u64;
     for (at, (kinds, first, second)) in relations.iter().enumerate() {
-        let begin = layout::block(at + 1);
+        let begin = form.block(at + 1);
         words[begin + FIELD_COUNT] = kinds.len() as u64;
         words[begin + KINDS..][..kinds.len()].copy_from_slice(kinds);
-        words[begin + MASKS] = *first;
-        words[begin + MASKS + 1] = *second;
+        words[begin + form.masks()] = *first;
+        words[begin + form.masks() + 1] = *second;
     }
     words
 }
 
 /// Groups, cows and milkings.
 pub fn herd() -> Vec<u64> {
-    schema_words(&[
-        (&[PLAIN], 1, 0),
-        (&[PLAIN, abort(GROUP)], 1, 0),
-        (&[propagation(COW), PLAIN], 0, 0),
-    ])
+    herd_in(NEW)
+}
+
+/// The same in a form.
+pub fn herd_in(form: Form) -> Vec<u64> {
+    let group: (&[u64], u64, u64) = (&[PLAIN], 1, 0);
+    let (cow, milking) = ([PLAIN, abort(GROUP)], [propagation(COW), PLAIN]);
+    schema_words_in(form, &[group, (&cow, 1, 0), (&milking, 0, 0)])
 }
 
 /// A record whose registers are all stamped with its own label.

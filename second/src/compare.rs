@@ -3,7 +3,7 @@
 use crate::label;
 use crate::layout;
 use crate::merge::join;
-use crate::rules::{holds, rule, Rule};
+use crate::rules::{holds, rule, to_twelve, Rule};
 use crate::schema::{self, Schema};
 use crate::shown::shown;
 use crate::table::{self, Record, Table};
@@ -48,8 +48,8 @@ fn records<'a>(schema: &Schema, table: &'a Table) -> BTreeMap<(u64, u64), &'a Re
 }
 
 fn same_record(a: &Record, b: &Record) -> bool {
-    let mut registers = a.registers.iter().zip(&b.registers);
-    let same_registers = registers.all(|(a, b)| {
+    let registers = a.registers.iter().zip(&b.registers);
+    let same_registers = registers.take(to_twelve(Rule::ComparedToTwelve)).all(|(a, b)| {
         holds(Rule::ComparedValues, a.value == b.value)
             && holds(Rule::ComparedStamps, a.stamp == b.stamp)
     });

@@ -1,10 +1,10 @@
 //! The three edits, and the deltas they write.
 
 use crate::label::{self, delete, label_of, redo, Register};
-use crate::layout::{self, DELTA_CAPACITY};
-use crate::rules::{holds, rule, Rule};
+use crate::layout::{self, DELTA_CAPACITY, OLD};
+use crate::rules::{holds, rule, to_twelve, Rule};
 use crate::schema::{Kind, Schema};
-use crate::shown::{key_values, references, steps, values_of, Steps};
+use crate::shown::{key_values, references_of, steps, values_of, Steps};
 use crate::table::{self, Record, Table};
 use crate::{need, Answer, Refusal};
 
@@ -28,6 +28,7 @@ struct Condition {
     other: Rule,
     by_abort: Rule,
     by_propagation: Rule,
+    to_twelve: Rule,
 }
 
 const OF_UPDATE: Condition = Condition {
@@ -37,6 +38,7 @@ const OF_UPDATE: Condition = Condition {
     other: Rule::UpdateSupportOther,
     by_abort: Rule::UpdateSupportByAbort,
     by_propagation: Rule::UpdateSupportByPropagation,
+    to_twelve: Rule::UpdateSupportToTwelve,
 };
 
 const OF_DELETION: Condition = Condition {
@@ -46,6 +48,7 @@ const OF_DELETION: Condition = Condition {
     other: Rule::DeletionSupportOther,
     by_abort: Rule::DeletionSupportByAbort,
     by_propagation: Rule::DeletionSupportByPropagation,
+    to_twelve: Rule::DeletionSupportToTwelve,
 };
 
 /// The flags of all records, as a call found them.
@@ -65,10 +68,11 @@ fn is_held(
 ) -> bool {
     let counts = |aborts: bool| rule(if aborts { by.by_abort } else { by.by_propagation });
     let held = table.records.iter().enumerate().any(|(at, record)| {
+        let references = references_of(schema, record, to_twelve(by.to_twelve));
         holds(by.other, at != except)
             && holds(by.complete, record.is_complete())
             && holds(by.even, !label::is_deleted(flags[at]))
-            && references(schema, record).iter().any(|(to, aborts)| *to == name && counts(*aborts))
+            && references.iter().any(|(to, aborts)| *to == name && counts(*aborts))
     });
     holds(by.any, held)
 }
@@ -196,6 +200,9 @@ fn write(table: &Table, mut changed: Vec<Record>, own: &mut [u64], delta: &mut [
     if rule(Rule::DeltaInListOrder) {
         changed.sort_by_key(Record::name);
     }
+    if !rule(Rule::DeltaToThirteen) {
+        changed.truncate(OLD.delta_capacity());
+    }
     let written = Table {
         capacity: DELTA_CAPACITY,
         replica: table.replica,
@@ -222,10 +229,12 @@ pub fn insertion(
     let mut values = values.to_vec();
     values.resize(of.kinds.len(), 0);
     let fields: Vec<(Kind, u64)> = of.kinds.iter().copied().zip(values.iter().copied()).collect();
-    need(fields.iter().all(|(kind, value)| is_value(*kind, *value)), Refusal::FieldOrValue)?;
+    let mut valued = fields.iter().take(to_twelve(Rule::ReferencesToTwelve));
+    need(valued.all(|(kind, value)| is_value(*kind, *value)), Refusal::FieldOrValue)?;
     let found = steps(&schema, &table);
+    let mut targets = fields.iter().take(to_twelve(Rule::TargetsShownToTwelve));
     let targets_shown =
-        fields.iter().all(|(kind, value)| target_is_shown(&table, found.targets(), *kind, *value));
+        targets.all(|(kind, value)| target_is_shown(&table, found.targets(), *kind, *value));
     need(targets_shown, Refusal::TargetNotShown)?;
     let stands = found.conflicting();
     let taken =
@@ -234,8 +243,8 @@ pub fn insertion(
     need(holds(Rule::InsertionFull, table.records.len() < table.capacity), Refusal::Full)?;
     let clock_fits = table.clock < label::LARGEST_COUNTER;
     need(holds(Rule::InsertionClockAtEnd, clock_fits), Refusal::ClockAtEnd)?;
-    let targets =
-        fields.iter().filter_map(|(kind, value)| target_of(&table, *kind, *value).flatten());
+    let fields = fields.iter().take(to_twelve(Rule::InsertionTargetsToTwelve));
+    let targets = fields.filter_map(|(kind, value)| target_of(&table, *kind, *value).flatten());
     let redone = targets
         .filter(|_| rule(Rule::InsertionRedoes))
         .filter(|at| holds(Rule::InsertionTargetOdd, !table.records[*at].is_even()))
@@ -248,9 +257,8 @@ pub fn insertion(
     table.clock += rule(Rule::InsertionClock) as u64;
     let mut registers: Vec<Register> =
         values.iter().map(|value| Register { value: *value, stamp: name }).collect();
-    if !rule(Rule::StampsAllFields) {
-        registers.iter_mut().skip(1).for_each(|register| register.stamp = label::NONE);
-    }
+    let stamped = if rule(Rule::StampsAllFields) { to_twelve(Rule::StampsToTwelve) } else { 1 };
+    registers.iter_mut().skip(stamped).for_each(|register| register.stamp = label::NONE);
     let record = Record { relation, label: name, flag: 0, registers };
     table.records.push(record.clone());
     let mut changed = vec![record];
@@ -259,12 +267,13 @@ pub fn insertion(
     Ok(name)
 }
 
-/// The positions that an update of one field of the record at `at` redoes.
+/// The positions that an update of one field of the record at `at` redoes. The field is told by its
+/// column and its kind.
 fn redone_by_update(
     schema: &Schema,
     table: &Table,
     at: usize,
-    kind: Kind,
+    (column, kind): (usize, Kind),
     old_value: u64,
     value: u64,
 ) -> Vec<usize> {
@@ -272,7 +281,8 @@ fn redone_by_update(
     let mut flags = found_flags(table);
     if let Some(target) = target_of(table, kind, value).flatten() {
         let odd = label::is_deleted(flags[target]);
-        if rule(Rule::NewTargetRedone) && holds(Rule::NewTargetOdd, odd) {
+        let asked = rule(Rule::NewTargetRedone) && column < to_twelve(Rule::NewTargetToTwelve);
+        if asked && holds(Rule::NewTargetOdd, odd) {
             redone.push(target);
         }
         if !rule(Rule::UpdateReadsFound) {
@@ -280,6 +290,7 @@ fn redone_by_update(
         }
     }
     let asked = rule(Rule::OldTargetRedone)
+        && column < to_twelve(Rule::OldTargetToTwelve)
         && holds(Rule::OldTargetDifferent, old_value != value)
         && holds(Rule::OldTargetByAbort, kind.abort_target().is_some());
     if let Some(target) = target_of(table, kind, old_value).flatten().filter(|_| asked) {
@@ -312,9 +323,12 @@ pub fn update(
     let field_fits = 1 <= field && field <= of.kinds.len() as u64;
     need(holds(Rule::FieldNumber, field_fits), Refusal::FieldOrValue)?;
     let column = if field_fits { field as usize - 1 } else { 0 };
+    need(column < to_twelve(Rule::FieldNumberToTwelve), Refusal::FieldOrValue)?;
     let kind = of.kinds[column];
-    need(is_value(kind, value), Refusal::FieldOrValue)?;
-    need(target_is_shown(&table, found.targets(), kind, value), Refusal::TargetNotShown)?;
+    let unasked = |by: Rule| column >= to_twelve(by);
+    need(unasked(Rule::ReferencesToTwelve) || is_value(kind, value), Refusal::FieldOrValue)?;
+    let target_shown = target_is_shown(&table, found.targets(), kind, value);
+    need(unasked(Rule::TargetsShownToTwelve) || target_shown, Refusal::TargetNotShown)?;
     let stands = found.conflicting();
     let mut values = values_of(&table.records[at]);
     let old_value = values[column];
@@ -327,7 +341,7 @@ pub fn update(
     need(!(taken && rule(Rule::UpdateConflict)), Refusal::Conflict)?;
     let clock_fits = table.clock < label::LARGEST_COUNTER;
     need(holds(Rule::UpdateClockAtEnd, clock_fits), Refusal::ClockAtEnd)?;
-    let redone = redone_by_update(&schema, &table, at, kind, old_value, value);
+    let redone = redone_by_update(&schema, &table, at, (column, kind), old_value, value);
     need(can_redo(&table, &redone), Refusal::FlagAtEnd)?;
 
     table.clock += rule(Rule::UpdateClock) as u64;
@@ -349,7 +363,8 @@ fn redone_by_deletion(schema: &Schema, table: &Table, at: usize) -> Vec<usize> {
         flags[at] = delete(flags[at]);
     }
     let positions = table.positions();
-    for (target, aborts) in references(schema, &table.records[at]) {
+    let fields = to_twelve(Rule::DeletionTargetsToTwelve);
+    for (target, aborts) in references_of(schema, &table.records[at], fields) {
         let Some(position) = positions.get(&target) else {
             continue;
         };
@@ -379,9 +394,10 @@ pub fn deletion(schema: &[u64], own: &mut [u64], delta: &mut [u64], index: u64) 
     let name = table.records[at].name();
     let guarded = table.records.iter().enumerate().any(|(other, record)| {
         let by_abort = |aborts: bool| holds(Rule::GuardedByAbort, aborts);
+        let references = references_of(&schema, record, to_twelve(Rule::GuardedToTwelve));
         holds(Rule::GuardedByAnother, other != at)
             && stands[other]
-            && references(&schema, record).iter().any(|to| to.0 == name && by_abort(to.1))
+            && references.iter().any(|to| to.0 == name && by_abort(to.1))
     });
     need(!(guarded && rule(Rule::Guarded)), Refusal::Guarded)?;
     let redone = redone_by_deletion(&schema, &table, at);

@@ -1,9 +1,13 @@
 //! Inputs of the list program: the worked example, the stored runs, and seeded random and damaged
 //! ones. Each has a name.
 
-use crate::cases::{self, bytes_of, herd, record, schema_words, table_of, COW, GROUP, MILKING};
-use crate::label::{label_of, LARGEST_COUNTER};
-use crate::layout::{self, FIELDS, FIELD_COUNT, LIST_CAPACITY, PLAIN, WORD};
+use crate::cases::{
+    self, bytes_of, herd, herd_in, record, schema_words, table_of, COW, GROUP, MILKING,
+};
+use crate::label::{label_of, LARGEST_COUNTER, LARGEST_REPLICA};
+use crate::layout::{
+    self, abort, propagation, FIELDS, FIELD_COUNT, LIST_CAPACITY, OLD, PLAIN, WORD,
+};
 use crate::random::{self, Random, Shape};
 use crate::table::{Record, Table};
 use crate::vectors::called_table;
@@ -60,7 +64,7 @@ pub fn barn() -> Vec<u8> {
     input(&herd(), &first.table)
 }
 
-/// A table of 300 records that are all shown: groups, and cows in them.
+/// A table of as many records as are taken, which are all shown: groups, and cows in them.
 fn full() -> Table {
     let mut records: Vec<Record> = Vec::new();
     for at in 1..=LIST_CAPACITY as u64 {
@@ -82,6 +86,39 @@ fn losers() -> Vec<u8> {
     input(&schema, &table_of(2, cows.collect()).words())
 }
 
+/// As many records as are taken, each with the longest line: twelve values of 20 digits.
+fn longest() -> Vec<u8> {
+    let schema = schema_words(&[(&[PLAIN; FIELDS], 0, 0)]);
+    let label = |at: u64| label_of(LARGEST_COUNTER - at, LARGEST_REPLICA);
+    let values: Vec<u64> = (0..FIELDS as u64).map(|field| u64::MAX - field).collect();
+    let records = (0..LIST_CAPACITY as u64).map(|at| record(1, label(at), 0, &values));
+    input(&schema, &table_of(LARGEST_COUNTER, records.collect()).words())
+}
+
+/// References in fields 9 to 12: to a deleted record by abort, which stands; to a record by
+/// propagation; an empty one; and to what is not there.
+fn new_fields() -> Vec<u8> {
+    let mut kinds = [PLAIN; FIELDS];
+    kinds[8..].copy_from_slice(&[propagation(1), PLAIN, abort(1), abort(1)]);
+    let schema = schema_words(&[(&[PLAIN], 0, 0), (&kinds, 0, 0)]);
+    let labels = [1, 2, 3, 4, 5].map(|counter| label_of(counter, 1));
+    let treatment = |label: u64, last: [u64; 4]| {
+        record(2, label, 0, &[[1, 2, 3, 4, 5, 6, 7, 8].as_slice(), &last].concat())
+    };
+    let records = vec![
+        record(1, labels[0], 1, &[40]),
+        record(1, labels[1], 0, &[41]),
+        treatment(labels[2], [labels[1], 10, 0, labels[0]]),
+        treatment(labels[3], [0, u64::MAX, labels[1], labels[4]]),
+    ];
+    input(&schema, &table_of(5, records).words())
+}
+
+/// A table of groups, cows and milkings in the old form.
+fn old(case: u64) -> Vec<u8> {
+    input(&herd_in(OLD), &cases::table(case).words_in(OLD))
+}
+
 /// The stored runs.
 pub fn runs() -> Vec<(String, Vec<u8>)> {
     let schema = herd();
@@ -101,14 +138,19 @@ pub fn runs() -> Vec<(String, Vec<u8>)> {
         ("cut-word", whole[..whole.len() - 3].to_vec()),
         ("schema-alone", bytes_of(&schema)),
         ("byte-too-many", [whole.clone(), vec![0]].concat()),
-        ("n-301", input(&schema, &above)),
-        ("n-301-schema-broken", input(&broken, &above)),
+        ("n-201", input(&schema, &above)),
+        ("n-201-schema-broken", input(&broken, &above)),
         ("schema-broken", input(&broken, &c5)),
         ("table-damaged", input(&schema, &damaged)),
         ("n-0", input(&schema, &empty)),
-        ("n-300", input(&schema, &full().words())),
+        ("n-200", input(&schema, &full().words())),
+        ("n-200-longest", longest()),
         ("empty-reference", input(&schema, &cases::table(10).words())),
         ("losers", losers()),
+        ("field-12", new_fields()),
+        // A table of three old records has the length of a new one of one record.
+        ("old-form", old(5)),
+        ("old-form-n-3", old(6)),
     ];
     named.into_iter().map(|(name, bytes)| (name.to_string(), bytes)).collect()
 }
@@ -183,11 +225,11 @@ fn one(random: &mut Random, category: &str) -> Vec<u8> {
     match category {
         "large" => large(random),
         "schema" => {
-            damage(random, &mut schema, 40);
+            damage(random, &mut schema, layout::block(4));
             input(&schema, &table)
         }
         "table" => {
-            damage(random, &mut table, 60);
+            damage(random, &mut table, layout::record(2));
             input(&schema, &table)
         }
         "bytes" => {

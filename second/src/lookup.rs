@@ -2,7 +2,7 @@
 
 use crate::label::{self, LABELS, LARGEST_COUNTER};
 use crate::layout::{
-    self, CLOCK, FIRSTS, LABEL, NEXT, RECORD, RELATION, RELATIONS, SCHEMA, USED, ZEROS,
+    self, CLOCK, FIRSTS, LABEL, NEW, NEXT, RECORD, RELATION, RELATIONS, SCHEMA, USED, ZEROS,
 };
 use crate::rules::{holds, rule, Rule};
 use crate::schema::{self, Schema};
@@ -42,8 +42,8 @@ impl Walk<'_> {
             let by = if last { of_last } else { way };
             holds(by, kept)
         };
-        let own_words = table::read_record(self.schema, record, LARGEST_COUNTER).is_some();
-        let counters = table::read_record(self.schema, record, self.table[CLOCK]).is_some();
+        let own_words = table::read_record(NEW, self.schema, record, LARGEST_COUNTER).is_some();
+        let counters = table::read_record(NEW, self.schema, record, self.table[CLOCK]).is_some();
         keeps(Rule::WayOwnWords, Rule::LastOwnWords, own_words)
             && keeps(Rule::WayRelation, Rule::LastRelation, record[RELATION] == self.relation)
             && keeps(Rule::WayRaises, Rule::LastRaises, before <= record[LABEL])
@@ -76,7 +76,7 @@ impl Walk<'_> {
             let table = table::read(self.schema, self.table);
             table.is_none_or(|table| shown(self.schema, &table)[index as usize - 1])
         };
-        let record = table::read_record(self.schema, self.record(index), LARGEST_COUNTER);
+        let record = table::read_record(NEW, self.schema, self.record(index), LARGEST_COUNTER);
         let counts = record.is_none_or(|record| {
             (rule(Rule::KnownDeleted) || record.is_even())
                 && (rule(Rule::KnownIncomplete) || record.is_complete())

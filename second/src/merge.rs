@@ -2,7 +2,7 @@
 
 use crate::label::{flag_changed, join_flags, join_registers, register_changed, Register};
 use crate::layout;
-use crate::rules::{holds, rule, Rule};
+use crate::rules::{holds, rule, to_twelve, Rule};
 use crate::schema;
 use crate::table::{self, Record, Table};
 use crate::{need, Answer, Refusal};
@@ -29,7 +29,8 @@ pub fn join(own: &Table, other: &Table) -> Table {
                 if rule(Rule::JoinFlags) {
                     ours.flag = join_flags(ours.flag, theirs.flag).0;
                 }
-                for (register, their) in ours.registers.iter_mut().zip(&theirs.registers) {
+                let registers = ours.registers.iter_mut().zip(&theirs.registers);
+                for (register, their) in registers.take(to_twelve(Rule::JoinToTwelve)) {
                     if rule(Rule::JoinRegisters) {
                         *register = join_registers(*register, *their).0;
                     }
@@ -45,6 +46,7 @@ pub fn join(own: &Table, other: &Table) -> Table {
 /// How many registers of a record, the flag among them, differ from before.
 fn changes(before: &Record, after: &Record) -> usize {
     let registers = before.registers.iter().zip(&after.registers);
+    let registers = registers.take(to_twelve(Rule::ChangesToTwelve));
     registers.filter(|(before, after)| register_changed(**before, **after)).count()
         + flag_changed(before.flag, after.flag) as usize
 }

@@ -1,8 +1,8 @@
 //! Seeded random schemas and tables, for the tests and the vectors.
 
-use crate::cases::{herd, schema_words};
+use crate::cases::{herd, schema_words, schema_words_in};
 use crate::label::{counter, label_of, Register, LARGEST_COUNTER, LARGEST_FLAG};
-use crate::layout::{abort, propagation, PLAIN};
+use crate::layout::{abort, mask, propagation, Form, FIELDS, KEY_FIELDS, NEW, PLAIN};
 use crate::schema::{self, Kind, Schema};
 use crate::table::{Record, Table};
 use std::collections::BTreeSet;
@@ -59,7 +59,7 @@ pub fn pair() -> Vec<u64> {
     schema_words(&[(&[PLAIN, abort(2)], 3, 0), (&[abort(1), propagation(1), PLAIN], 2, 4)])
 }
 
-/// Eight relations; the last has eight fields and keys of four.
+/// Eight relations; the last has twelve fields and keys of the first four and of the last four.
 pub fn wide() -> Vec<u64> {
     schema_words(&[
         (&[PLAIN], 1, 0),
@@ -79,31 +79,60 @@ pub fn wide() -> Vec<u64> {
                 abort(8),
                 PLAIN,
                 propagation(8),
+                PLAIN,
+                abort(1),
+                propagation(2),
+                abort(8),
             ],
-            15,
-            240,
+            mask(&[1, 2, 3, 4]),
+            mask(&[9, 10, 11, 12]),
         ),
     ])
 }
 
-fn random_schema(random: &mut Random) -> Vec<u64> {
+/// The kinds and the two masks of a relation.
+pub type Block = (Vec<u64>, [u64; 2]);
+
+/// A mask of at most four of so many fields, or none.
+fn some_mask(random: &mut Random, fields: u64) -> u64 {
+    let mut mask = random.below(1 << fields);
+    while mask.count_ones() > KEY_FIELDS {
+        mask &= random.next();
+    }
+    if random.chance(1, 3) {
+        0
+    } else {
+        mask
+    }
+}
+
+/// One to four relations, of at most so many fields.
+pub fn blocks(random: &mut Random, most: usize) -> Vec<Block> {
     let relations = 1 + random.below(4);
     let mut blocks = Vec::new();
     for _ in 0..relations {
-        let fields = 1 + random.below(4);
+        let fields = 1 + random.below(most as u64);
         let kinds: Vec<u64> = (0..fields)
             .map(|_| {
                 let target = 1 + random.below(relations);
                 random.pick(&[PLAIN, PLAIN, abort(target), abort(target), propagation(target)])
             })
             .collect();
-        let masks = [random.below(1 << fields), random.below(1 << fields)];
-        let masks = masks.map(|mask| if random.chance(1, 3) { 0 } else { mask });
-        blocks.push((kinds, masks));
+        blocks.push((kinds, [some_mask(random, fields), some_mask(random, fields)]));
     }
+    blocks
+}
+
+/// The words of a schema of these relations, in a form that has the fields.
+pub fn encoded(form: Form, blocks: &[Block]) -> Vec<u64> {
     let blocks: Vec<(&[u64], u64, u64)> =
         blocks.iter().map(|(kinds, masks)| (kinds.as_slice(), masks[0], masks[1])).collect();
-    schema_words(&blocks)
+    schema_words_in(form, &blocks)
+}
+
+fn random_schema(random: &mut Random) -> Vec<u64> {
+    let most = random.pick(&[4, 4, 4, FIELDS]);
+    encoded(NEW, &blocks(random, most))
 }
 
 /// A schema that is not broken.

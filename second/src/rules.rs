@@ -3,6 +3,8 @@
 //! The code asks `rule` or `holds` where a rule decides. Both are constant, but in this crate's own
 //! tests, of which one drops each rule in turn and looks for a difference in the vectors.
 
+use crate::layout::{NEW, OLD};
+
 /// The list of the rules, from which both the type and the list of all are made.
 macro_rules! rules {
     ($($(#[$sentence:meta])+ $name:ident,)+) => {
@@ -45,9 +47,9 @@ rules! {
     SomeRelation,
     /// "Word 0 is the number of relations R, 1 to 8": at most 8.
     MostRelations,
-    /// "field count F (1 to 8)": at least 1.
+    /// "F may be 1 to 12": at least 1.
     SomeField,
-    /// "field count F (1 to 8)": at most 8.
+    /// "F may be 1 to 12": at most 12.
     MostFields,
     /// "Kind 1 is a plain value; 16 + r is a reference to relation r with abort; 32 + r is one with
     /// propagation". Dropped: any other word is a plain value.
@@ -479,6 +481,59 @@ rules! {
     /// 13: "a flag to be redone is 65,535".
     FlagAtEnd,
 
+    // Twelve fields: "All earlier rules apply with these figures." Dropped: they apply to the first
+    // eight fields alone.
+    /// "F may be 1 to 12". Dropped: 1 to 8.
+    FieldsToTwelve,
+    /// "twelve kinds": of fields within F. Dropped: those above 8 are plain, whatever their words.
+    KindsToTwelve,
+    /// "twelve kinds": "kinds above F are 0".
+    ZeroKindsToTwelve,
+    /// "In a key mask bit 0 is field 1", so that bit 11 is field 12. Dropped: those bits mean nothing.
+    KeysToTwelve,
+    /// "twelve values, twelve stamps": each register keeps its rules.
+    RegistersToTwelve,
+    /// "unused fields are zero".
+    UnusedToTwelve,
+    /// "A record is complete if all F registers have stamps."
+    CompleteToTwelve,
+    /// "Asked for a record's values": twelve.
+    ValuesToTwelve,
+    /// Step 2: "by abort references".
+    ReachedToTwelve,
+    /// Step 4: "every nonempty reference".
+    ClosedToTwelve,
+    /// "join register by register".
+    JoinToTwelve,
+    /// "old records with such a change", of any register.
+    ChangesToTwelve,
+    /// "exactly the second's [...] registers".
+    ComparedToTwelve,
+    /// Insertion: "and it stamps all fields".
+    StampsToTwelve,
+    /// Insertion: "Each target with an odd flag is redone".
+    InsertionTargetsToTwelve,
+    /// "For references the new target is redone if odd."
+    NewTargetToTwelve,
+    /// "Then the old target [...] is redone".
+    OldTargetToTwelve,
+    /// Update: "a complete even record other than the updated one references it".
+    UpdateSupportToTwelve,
+    /// Deletion: "Each abort target".
+    DeletionTargetsToTwelve,
+    /// Deletion: "under the same condition": "references it".
+    DeletionSupportToTwelve,
+    /// 7: "field not 1 to F". Dropped: nor 1 to 8.
+    FieldNumberToTwelve,
+    /// 7: "reference neither 0 nor a label".
+    ReferencesToTwelve,
+    /// 8: "nonempty new target not shown".
+    TargetsShownToTwelve,
+    /// 10: "another standing record references it by abort".
+    GuardedToTwelve,
+    /// "deltas have N = 13". Dropped: the first nine of the changed records.
+    DeltaToThirteen,
+
     // The herd book.
     /// "relations 1 to 6 in that order". Dropped: treatments before cleanings.
     KindsInOrder,
@@ -536,6 +591,15 @@ pub(crate) use switch::{rule, without};
 /// What a rule demands, where it is in force.
 pub(crate) fn holds(by: Rule, demanded: bool) -> bool {
     demanded || !rule(by)
+}
+
+/// How many fields a rule is applied to: twelve, and eight where it is dropped.
+pub(crate) fn to_twelve(by: Rule) -> usize {
+    if rule(by) {
+        NEW.fields
+    } else {
+        OLD.fields
+    }
 }
 
 /// The switch, which only the tests of this crate have.

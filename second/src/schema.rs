@@ -1,10 +1,10 @@
 //! The schema.
 
 use crate::layout::{
-    self, ABORT, BLOCK_ZERO, FIELDS, FIELD_COUNT, KEYS, KEY_FIELDS, KINDS, MASKS, PLAIN,
-    PROPAGATION, RELATIONS, RELATION_COUNT,
+    self, Form, ABORT, FIELD_COUNT, KEYS, KEY_FIELDS, KINDS, NEW, OLD, PLAIN, PROPAGATION,
+    RELATIONS, RELATION_COUNT,
 };
-use crate::rules::{holds, rule, Rule};
+use crate::rules::{holds, rule, to_twelve, Rule};
 use crate::{need, Answer, Refusal};
 
 #[derive(Clone, Copy, Debug, PartialEq, Eq)]
@@ -69,6 +69,7 @@ fn read_kind(word: u64, relations: u64) -> Option<Kind> {
 }
 
 fn read_key(mask: u64, fields: usize) -> Option<Vec<usize>> {
+    let mask = if rule(Rule::KeysToTwelve) { mask } else { mask % (1 << OLD.fields) };
     let within = holds(Rule::KeyWithinFields, mask < 1 << fields);
     if within && holds(Rule::MostKeyFields, mask.count_ones() <= KEY_FIELDS) {
         Some((0..fields).filter(|field| mask >> field & 1 == 1).collect())
@@ -77,24 +78,28 @@ fn read_key(mask: u64, fields: usize) -> Option<Vec<usize>> {
     }
 }
 
-fn read_block(block: &[u64], relations: u64) -> Option<Relation> {
-    let some = holds(Rule::SomeField, 1 <= block[FIELD_COUNT]);
-    if !some || !holds(Rule::MostFields, block[FIELD_COUNT] <= FIELDS as u64) {
+fn read_block(form: Form, block: &[u64], relations: u64) -> Option<Relation> {
+    let (told, most) = (block[FIELD_COUNT], form.fields as u64);
+    let some = holds(Rule::SomeField, 1 <= told);
+    let within = rule(Rule::FieldsToTwelve) || told <= OLD.fields as u64;
+    if !some || !within || !holds(Rule::MostFields, told <= most) {
         return None;
     }
-    let fields = block[FIELD_COUNT].min(FIELDS as u64) as usize;
+    let fields = told.min(most) as usize;
+    let (words, rest) = block[KINDS..form.masks()].split_at(fields);
     let mut kinds = Vec::new();
-    for field in 0..fields {
-        kinds.push(read_kind(block[KINDS + field], relations)?);
+    for (field, word) in words.iter().enumerate() {
+        let read = field < to_twelve(Rule::KindsToTwelve);
+        kinds.push(if read { read_kind(*word, relations)? } else { Kind::Plain });
     }
-    let above = block[KINDS + fields..MASKS].iter().all(|word| *word == 0);
-    if !holds(Rule::KindsAboveFields, above)
-        || !holds(Rule::LastWordOfBlock, block[BLOCK_ZERO] == 0)
+    let mut above = rest.iter().take(to_twelve(Rule::ZeroKindsToTwelve).saturating_sub(fields));
+    if !holds(Rule::KindsAboveFields, above.all(|word| *word == 0))
+        || !holds(Rule::LastWordOfBlock, block[form.block_zero()] == 0)
     {
         return None;
     }
     let mut keys = Vec::new();
-    for mask in &block[MASKS..MASKS + KEYS] {
+    for mask in &block[form.masks()..][..KEYS] {
         let key = read_key(*mask, fields)?;
         if !key.is_empty() {
             keys.push(key);
@@ -105,7 +110,12 @@ fn read_block(block: &[u64], relations: u64) -> Option<Relation> {
 
 /// The schema that these words tell, if they are not broken.
 pub fn read(words: &[u64]) -> Option<Schema> {
-    if words.len() != layout::SCHEMA {
+    read_in(NEW, words)
+}
+
+/// The same of words in a form.
+pub fn read_in(form: Form, words: &[u64]) -> Option<Schema> {
+    if words.len() != form.schema() {
         return None;
     }
     let told = words[RELATION_COUNT];
@@ -116,9 +126,9 @@ pub fn read(words: &[u64]) -> Option<Schema> {
     let count = told.min(RELATIONS as u64);
     let mut relations = Vec::new();
     for number in 1..=RELATIONS {
-        let block = &words[layout::block(number)..layout::block(number + 1)];
+        let block = &words[form.block(number)..form.block(number + 1)];
         if number as u64 <= count {
-            relations.push(read_block(block, count)?);
+            relations.push(read_block(form, block, count)?);
         } else if !holds(Rule::BlocksAboveRelations, block.iter().all(|word| *word == 0)) {
             return None;
         }

@@ -1,7 +1,8 @@
 //! The shown list: its four steps, the marks and the walk.
 
 use crate::label;
-use crate::rules::{holds, rule, Rule};
+use crate::layout::FIELDS;
+use crate::rules::{holds, rule, to_twelve, Rule};
 use crate::schema::Schema;
 use crate::table::{self, Record, Table};
 use crate::Answer;
@@ -16,9 +17,14 @@ pub enum Step {
 
 /// The nonempty references of a record: the target's relation and label, and whether it aborts.
 pub fn references(schema: &Schema, record: &Record) -> Vec<((u64, u64), bool)> {
+    references_of(schema, record, FIELDS)
+}
+
+/// Those of the first fields, which are so many.
+pub fn references_of(schema: &Schema, record: &Record, fields: usize) -> Vec<((u64, u64), bool)> {
     let mut found = Vec::new();
     if let Some(relation) = schema.relation(record.relation) {
-        for (kind, register) in relation.kinds.iter().zip(&record.registers) {
+        for (kind, register) in relation.kinds.iter().zip(&record.registers).take(fields) {
             if let Some(target) = kind.target() {
                 if register.value != 0 {
                     found.push(((target, register.value), kind.abort_target().is_some()));
@@ -38,7 +44,8 @@ pub fn standing(schema: &Schema, table: &Table) -> Vec<bool> {
     let mut stands: Vec<bool> = table.records.iter().map(taken).collect();
     let mut waiting: Vec<usize> = (0..stands.len()).filter(|at| stands[*at]).collect();
     while let Some(at) = waiting.pop() {
-        for (name, aborts) in references(schema, &table.records[at]) {
+        let fields = to_twelve(Rule::ReachedToTwelve);
+        for (name, aborts) in references_of(schema, &table.records[at], fields) {
             let Some(target) = positions.get(&name) else {
                 continue;
             };
@@ -216,7 +223,7 @@ fn closed(schema: &Schema, table: &Table, stays: &[bool]) -> Vec<bool> {
             members[at] = false;
             gone.push(at);
         }
-        for (name, aborts) in references(schema, record) {
+        for (name, aborts) in references_of(schema, record, to_twelve(Rule::ClosedToTwelve)) {
             if !rule(if aborts { Rule::ClosedByAbort } else { Rule::ClosedByPropagation }) {
                 continue;
             }

@@ -2,10 +2,10 @@
 
 use crate::label::{self, Register};
 use crate::layout::{
-    self, CAPACITY, CLOCK, FIELDS, FLAG, HEADER, LABEL, NEXT, RECORD, RELATION, RELATIONS, REPLICA,
-    STAMPS, USED, VALUES, ZERO, ZEROS,
+    self, Form, CAPACITY, CLOCK, FLAG, HEADER, LABEL, NEW, NEXT, RELATION, RELATIONS, REPLICA,
+    USED, VALUES, ZERO, ZEROS,
 };
-use crate::rules::{holds, rule, Rule};
+use crate::rules::{holds, rule, to_twelve, Rule};
 use crate::schema::{self, Kind, Schema};
 use crate::{need, Answer, Refusal};
 use std::collections::BTreeMap;
@@ -21,7 +21,8 @@ pub struct Record {
 
 impl Record {
     pub fn is_complete(&self) -> bool {
-        self.registers.iter().all(|register| register.stamp != label::NONE)
+        let mut registers = self.registers.iter().take(to_twelve(Rule::CompleteToTwelve));
+        registers.all(|register| register.stamp != label::NONE)
     }
 
     pub fn is_even(&self) -> bool {
@@ -50,18 +51,23 @@ impl Table {
 
     /// The words of the table; chains follow the list order.
     pub fn words(&self) -> Vec<u64> {
-        let mut words = vec![0; layout::table(self.capacity)];
+        self.words_in(NEW)
+    }
+
+    /// The same in a form that has the fields.
+    pub fn words_in(&self, form: Form) -> Vec<u64> {
+        let mut words = vec![0; form.table(self.capacity)];
         words[REPLICA] = self.replica;
         words[CLOCK] = self.clock;
         words[USED] = self.records.len() as u64;
         for (at, record) in self.records.iter().enumerate() {
-            let begin = layout::record(at);
+            let begin = form.record(at);
             words[begin + RELATION] = record.relation;
             words[begin + LABEL] = record.label;
             words[begin + FLAG] = record.flag;
             for (field, register) in record.registers.iter().enumerate() {
                 words[begin + VALUES + field] = register.value;
-                words[begin + STAMPS + field] = register.stamp;
+                words[begin + form.stamps() + field] = register.stamp;
             }
         }
         let mut last: Option<(u64, usize)> = None;
@@ -71,7 +77,7 @@ impl Table {
                 _ => layout::first(relation as usize),
             };
             words[link] = at as u64 + 1;
-            last = Some((relation, layout::record(at)));
+            last = Some((relation, form.record(at)));
         }
         words
     }
@@ -79,10 +85,15 @@ impl Table {
 
 /// The N of a table of this many words.
 pub fn capacity_of(length: usize) -> Option<usize> {
-    if length < HEADER || (length - HEADER) % RECORD != 0 {
+    capacity_in(NEW, length)
+}
+
+/// The same in a form.
+pub fn capacity_in(form: Form, length: usize) -> Option<usize> {
+    if length < HEADER || (length - HEADER) % form.record_words() != 0 {
         return None;
     }
-    let capacity = (length - HEADER) / RECORD;
+    let capacity = (length - HEADER) / form.record_words();
     if capacity <= CAPACITY {
         Some(capacity)
     } else {
@@ -118,7 +129,7 @@ fn read_register(kind: Kind, value: u64, stamp: u64, clock: u64) -> Option<Regis
 }
 
 /// The record that these words tell, if they keep their rules and hold no counter above the clock.
-pub fn read_record(schema: &Schema, words: &[u64], clock: u64) -> Option<Record> {
+pub fn read_record(form: Form, schema: &Schema, words: &[u64], clock: u64) -> Option<Record> {
     let (relation, name, flag) = (words[RELATION], words[LABEL], words[FLAG]);
     let kinds: &[Kind] = match schema.relation(relation) {
         Some(of) => &of.kinds,
@@ -133,17 +144,21 @@ pub fn read_record(schema: &Schema, words: &[u64], clock: u64) -> Option<Record>
     }
     let mut registers = Vec::new();
     for (field, kind) in kinds.iter().enumerate() {
-        registers.push(read_register(*kind, words[VALUES + field], words[STAMPS + field], clock)?);
+        let (value, stamp) = (words[VALUES + field], words[form.stamps() + field]);
+        let tested = field < to_twelve(Rule::RegistersToTwelve);
+        let register = read_register(*kind, value, stamp, clock);
+        registers.push(if tested { register? } else { Register { value, stamp } });
     }
-    let zero = |from: usize| (kinds.len()..FIELDS).all(|field| words[from + field] == 0);
-    if !holds(Rule::UnusedValues, zero(VALUES)) || !holds(Rule::UnusedStamps, zero(STAMPS)) {
+    let unused = kinds.len()..form.fields.min(to_twelve(Rule::UnusedToTwelve));
+    let zero = |from: usize| unused.clone().all(|field| words[from + field] == 0);
+    if !holds(Rule::UnusedValues, zero(VALUES)) || !holds(Rule::UnusedStamps, zero(form.stamps())) {
         return None;
     }
     Some(Record { relation, label: name, flag, registers })
 }
 
 /// Whether the chains hold each record once, in its relation's chain, with strictly rising labels.
-fn chains_hold(words: &[u64], records: &[Record]) -> bool {
+fn chains_hold(form: Form, words: &[u64], records: &[Record]) -> bool {
     let mut held = 0;
     for relation in 1..=RELATIONS {
         let mut index = words[layout::first(relation)];
@@ -168,7 +183,7 @@ fn chains_hold(words: &[u64], records: &[Record]) -> bool {
                 return false;
             }
             before = record.label;
-            index = words[layout::record(at) + NEXT];
+            index = words[form.record(at) + NEXT];
         }
     }
     holds(Rule::OnAChain, held == records.len())
@@ -186,18 +201,23 @@ pub fn header_holds(words: &[u64], capacity: usize) -> bool {
 
 /// The table that the words tell, if they have a right length and are well-formed.
 pub fn read(schema: &Schema, words: &[u64]) -> Option<Table> {
-    let capacity = capacity_of(words.len())?;
+    read_in(NEW, schema, words)
+}
+
+/// The same of words in a form.
+pub fn read_in(form: Form, schema: &Schema, words: &[u64]) -> Option<Table> {
+    let capacity = capacity_in(form, words.len())?;
     let (replica, clock, used) = (words[REPLICA], words[CLOCK], words[USED]);
     let header = header_holds(words, capacity);
-    let end = layout::record((used as usize).min(capacity));
+    let end = form.record((used as usize).min(capacity));
     if !header || !holds(Rule::WordsAboveUsed, words[end..].iter().all(|word| *word == 0)) {
         return None;
     }
     let mut records = Vec::new();
-    for record in words[HEADER..end].chunks(RECORD) {
-        records.push(read_record(schema, record, clock)?);
+    for record in words[HEADER..end].chunks(form.record_words()) {
+        records.push(read_record(form, schema, record, clock)?);
     }
-    if !chains_hold(words, &records) {
+    if !chains_hold(form, words, &records) {
         return None;
     }
     Some(Table { capacity, replica, clock, records })
@@ -231,5 +251,5 @@ pub fn values(table: &[u64], index: u64) -> &[u64] {
         return &[];
     }
     let begin = layout::record(index as usize - 1) + VALUES;
-    &table[begin..begin + FIELDS]
+    &table[begin..begin + to_twelve(Rule::ValuesToTwelve)]
 }

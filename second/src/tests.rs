@@ -7,6 +7,7 @@ mod compare;
 mod edges;
 mod edits;
 mod fleets;
+mod forms;
 mod items;
 mod list;
 mod lookup;

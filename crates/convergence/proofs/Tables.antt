@@ -73,7 +73,7 @@ valid-value s v f = decode-encode (schemaOf s) v (true-valid fields (schemaOf s)
 pub formed-exactly : (s t : List ℕ) → broken s ≡ false → tableLength t ≡ true → (wellFormed s t ≡ true) ↔ ((valid fields (schemaOf s) (decode t) ≡ true) × (encode (decode t) ≡ t))
 formed-exactly s t b l = (λ w. (formed-valid s t b l w, formed-encoded s t b l w), λ v. rw (v .1) at (encode-formed s (decode t) b (v .0)))
 
--- a relation of a schema that isn't broken has at most eight fields
+-- a relation of a schema that isn't broken has at most as many fields as a record
 pub narrow : (s : List ℕ) → broken s ≡ false → (r : ℕ) → length (relationNumbered (schemaOf s) r .kinds) ≤ fields
 unfolding relationNumbered schemaOf
 narrow s b r = go (test (ltb (r - 1) (relations s)))

@@ -16,7 +16,7 @@ ghost use Rattle.marks.specs.Marks.{isMarked};
 ghost use Rattle.edit_basics.specs.Targets.{held, Placed};
 ghost use Rattle.edit_laws.specs.Clash.{clashes};
 
-// Whether record `y` stands, is of relation `r` and not record `but`, and conflicts with eight values on one of two keys.
+// Whether record `y` stands, is of relation `r` and not record `but`, and conflicts with the values lent on one of two keys.
 fn takes(
     schema: &[u64],
     table: &[u64],
@@ -44,7 +44,7 @@ fn takes(
         | list_conflicts::conflicts_on(schema, table, second, y, values)
 }
 
-// Whether a standing record of relation `r`, other than record `but`, conflicts with eight values on one of two keys.
+// Whether a standing record of relation `r`, other than record `but`, conflicts with the values lent on one of two keys.
 pub fn is_taken(
     schema: &[u64],
     table: &[u64],

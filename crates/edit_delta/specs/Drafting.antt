@@ -19,7 +19,7 @@ use Rattle.model.specs.Calls.{tableLength}
 use Rattle.model.specs.Edits.{newLabel, flagOnly}
 use Rattle.edit_delta.specs.Picked.{pickedKeys, draftOf}
 
--- What every draft needs: schema s, table t, delta buffer d, and marks m, at most eight of them 1.
+-- What every draft needs: schema s, table t, delta buffer d, and marks m, at most as many of them 1 as a record has fields.
 pub record Ready (s t d m : List ℕ) : Type 0 where
   pub schema : broken s ≡ false
   pub table : tableLength t ≡ true

@@ -47,11 +47,11 @@ pub fn is_insertion_taken(
     requires { ⌜ Checked (now schema) (now table) × Marked (now table) (standing (schemaOf (now schema)) (held (now table))) (now stands) × (1 ≤ r) × (r ≤ relations (now schema)) × (valuesRule (kindsOf (now schema) r) (now values) ≡ true) ⌝ }
     ensures { λ x. ⌜ x ≡ some-of (λ (y : Rec). conflict (schemaOf (now (schema .entry))) y (newRecord fields (decode (now (table .entry))) r (now (values .entry)))) (standing (schemaOf (now (schema .entry))) (held (now (table .entry)))) ⌝ }
 {
-    let mut eight = [0u64; layout::FIELDS];
-    pad(values, &mut eight);
+    let mut padded = [0u64; layout::FIELDS];
+    pad(values, &mut padded);
     let first = layout::mask_at(schema, r, 1);
     let second = layout::mask_at(schema, r, 2);
-    edit_conflicts::is_taken(schema, table, stands, r, first, second, 0, &eight)
+    edit_conflicts::is_taken(schema, table, stands, r, first, second, 0, &padded)
 }
 
 // Checks 11 to 13 of the insertion of a record; the marks of the records to be redone, where none applies.

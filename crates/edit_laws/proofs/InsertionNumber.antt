@@ -69,7 +69,7 @@ padded-values l vs out h p = ext-getD 0 _ out (count ∙ sym (p .long)) (λ k q.
     count : length (valuesOf (stampedBy l vs (fields - length vs))) ≡ fields
     count = values-count (stampedBy l vs (fields - length vs)) ∙ stamped-length l vs (fields - length vs) ∙ omega arith
 
--- a scan of the values into eight words
+-- a scan of the values into as many words as a record has fields
 pub pad-more : (vs out : List ℕ) (n x : ℕ) → n < length out → ((k : ℕ) → k < n → getD out k 0 ≡ getD vs k 0) → x ≡ getD vs n 0
     → (k : ℕ) → k < n + 1 → getD (set out n x) k 0 ≡ getD vs k 0
 pad-more vs out n x l h e k b = go (tri k n)

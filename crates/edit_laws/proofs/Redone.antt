@@ -1,4 +1,4 @@
--- The records that an edit redoes: the table holds them, they are at most eight, and a deletion does not redo its own record.
+-- The records that an edit redoes: the table holds them, they are at most as many as a record has fields, and a deletion does not redo its own record.
 -- Assumes nothing.
 use Prim.Native.Nat.{ℕ, suc, _≤_}
 use mathlib.Core.Path.{_≡_, refl, sym, _∙_, ap}

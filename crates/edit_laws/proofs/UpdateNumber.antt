@@ -78,7 +78,7 @@ module _ (s t : List ℕ) (i f new : ℕ) (o : Placed s t i) where
   unfolding listed
   count-here = listed-length fields (valueAt t i)
 
-  -- the eight values with the new one
+  -- the values with the new one
   renewed-values : (out : List ℕ) → 1 ≤ f → f ≤ fields → Renewed t i f new out → valuesOf (y .cell .regs) ≡ out
   unfolding withRegister
   renewed-values out a b r =

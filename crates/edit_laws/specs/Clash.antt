@@ -20,7 +20,7 @@ pub record Padded (vs out : List ℕ) : Type 0 where
   pub long : length out ≡ fields
   pub at : (k : ℕ) → k < fields → getD out k 0 ≡ getD vs k 0
 
--- The eight values of record i with another value in field f.
+-- The values of record i with another value in field f.
 pub record Renewed (t : List ℕ) (i f new : ℕ) (out : List ℕ) : Type 0 where
   pub long : length out ≡ fields
   pub at : (k : ℕ) → k < fields → getD out k 0 ≡ cond (eqb (k + 1) f) new (valueAt t i (k + 1))

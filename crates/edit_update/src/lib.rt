@@ -40,7 +40,7 @@ fn renewed_at(table: &[u64], i: usize, f: usize, new: u64, j: usize) -> u64
     layout::value_at(table, i, j)
 }
 
-// The eight values of record `i` with a new value in field `f`.
+// The values of record `i` with a new value in field `f`.
 fn renew(table: &[u64], i: usize, f: usize, new: u64, out: &mut [u64])
     requires { ⌜ fields ≡ length (now out) ⌝ }
     ensures { λ _. ⌜ Renewed (now (table .entry)) i f new (now (out .exit)) ⌝ }
@@ -64,12 +64,12 @@ pub fn is_update_taken(
     requires { ⌜ Placed (now schema) (now table) i × Marked (now table) (standing (schemaOf (now schema)) (held (now table))) (now stands) × (1 ≤ f) × (f ≤ fields) ⌝ }
     ensures { λ x. ⌜ x ≡ some-of (λ (z : Rec). updateConflict (schemaOf (now (schema .entry))) (described (schemaOf (now (schema .entry))) (recordOf (now (table .entry)) i)) f z (withRegister (recordOf (now (table .entry)) i) f (reg new (newLabel (decode (now (table .entry))))))) (standing (schemaOf (now (schema .entry))) (held (now (table .entry)))) ⌝ }
 {
-    let mut eight = [0u64; layout::FIELDS];
-    renew(table, i, f, new, &mut eight);
+    let mut renewed = [0u64; layout::FIELDS];
+    renew(table, i, f, new, &mut renewed);
     let r = layout::relation_at(table, i);
     let first = narrow(layout::mask_at(schema, r, 1), f);
     let second = narrow(layout::mask_at(schema, r, 2), f);
-    edit_conflicts::is_taken(schema, table, stands, r, first, second, i, &eight)
+    edit_conflicts::is_taken(schema, table, stands, r, first, second, i, &renewed)
 }
 
 // Checks 6 to 13 of the update of field `f` of record `i`; the marks of the records to be redone, where none applies.

@@ -7,9 +7,9 @@ ghost use Rattle.model.specs.Lookup.{lookupNumber, lookupIndex};
 ghost use Rattle.herd.specs.Version.{version};
 
 // The parts of the version. CHANGELOG.md tells when each one rises.
-const MAJOR: u64 = 3;
+const MAJOR: u64 = 4;
 
-const MINOR: u64 = 1;
+const MINOR: u64 = 0;
 
 const PATCH: u64 = 0;
 

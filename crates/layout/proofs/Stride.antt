@@ -41,7 +41,7 @@ pub base-field : (i j f g : ℕ) → 1 ≤ i → 1 ≤ j → f < recordWords →
 unfolding base
 base-field i j f g a b p q e = (omega arith, omega arith)
 
--- word k, behind the header, is a field of record (k - 16) / 20 + 1
+-- word k, behind the header, is a field of record (k - headerWords) / recordWords + 1
 pub base-word : (k : ℕ) → headerWords ≤ k → k ≡ base ((k - headerWords) / recordWords + 1) + (k - headerWords) % recordWords
 unfolding base
 base-word k h = omega arith

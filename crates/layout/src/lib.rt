@@ -7,7 +7,7 @@ ghost use Rattle.model.specs.Layout.{word, block, base, relations, fieldCount, 
 ghost use Rattle.model.specs.Calls.{schemaLength, tableLength, deltaLength, marksLength, badIndex};
 
 // Fields of a record, and of a relation in the schema.
-pub const FIELDS: usize = 8;
+pub const FIELDS: usize = 12;
 
 pub const MOST_RELATIONS: usize = 8;
 

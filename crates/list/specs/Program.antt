@@ -1,5 +1,5 @@
--- The list program's whole text for an input (document 01: "The list program reads schema, then table, as little-endian words on standard input,
--- N up to 300").
+-- The list program's whole text for an input (document 01: "The list program reads schema, then table, as little-endian words on standard input";
+-- document 02, F-7: "The list program takes N up to 200").
 -- Assumes nothing.
 use Prim.Native.Nat.{ℕ, _+_, _*_, _%_}
 use mathlib.Core.Bool.{Bool, cond, _&&_}
@@ -11,9 +11,9 @@ use Rattle.model.specs.Calls.{schemaLength, tableLength, marksNumber, marksCoun
 use Rattle.codec.specs.Bytes.{wordsOf}
 use Rattle.list_text.specs.Text.{refusedText, shownText}
 
--- "N up to 300"
+-- F-7: "N up to 200"
 abbrev pub mostListed : ℕ
-mostListed = 300
+mostListed = 200
 
 abbrev pub mostWords : ℕ
 mostWords = schemaWords + headerWords + recordWords * mostListed
@@ -25,7 +25,7 @@ schemaIn b = take schemaWords (wordsOf b)
 abbrev pub tableIn : List ℕ → List ℕ
 tableIn b = drop schemaWords (wordsOf b)
 
--- "a whole schema and then a whole table with N at most 300"
+-- "a whole schema and then a whole table with N at most" 200
 unfoldable pub isWhole : List ℕ → Bool
 isWhole b =
     eqb (length b % wordBytes) 0 && schemaLength (schemaIn b) && tableLength (tableIn b) && leb (capacityOf (tableIn b)) mostListed
@@ -36,7 +36,7 @@ answerText s t =
     let zeros : List ℕ = replicate (capacityOf t) 0 in
     cond (eqb (marksNumber s t zeros) 0) (shownText s (marksCount s t zeros) (shownList s t)) (refusedText (marksNumber s t zeros))
 
--- "input that isn't a whole schema and then a whole table with N at most 300 gives 1"
+-- "input that isn't a whole schema and then a whole table with N at most" 200 "gives 1"
 unfoldable pub listText : List ℕ → List ℕ
 listText b = cond (isWhole b) (answerText (schemaIn b) (tableIn b)) (refusedText 1)
 

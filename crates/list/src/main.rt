@@ -10,7 +10,7 @@ ghost use Rattle.list_text.specs.Placed.{Placed};
 use libc::STDOUT_FILENO;
 
 // The largest N that the program takes.
-const MOST_RECORDS: usize = 300;
+const MOST_RECORDS: usize = 200;
 
 const MOST_WORDS: usize = layout::SCHEMA_WORDS
     + layout::HEADER_WORDS
@@ -59,7 +59,7 @@ fn respond(input: &[u8], words: &mut [u64], marks: &mut [u8], out: &mut [u8]) ->
     write(input, words, marks, out)
 }
 
-// Whether the input is a whole schema and then a whole table with N at most 300.
+// Whether the input is a whole schema and then a whole table with N at most 200.
 fn is_whole(input: &[u8]) -> bool
     ensures { λ r. ⌜ r ≡ isWhole (now (input .entry)) ⌝ }
 {

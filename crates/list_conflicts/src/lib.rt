@@ -56,7 +56,7 @@ pub fn conflicts_on(schema: &[u64], table: &[u64], mask: u64, i: usize, values: 
 {
     let a = layout::base(i) + layout::HEAD_WORDS;
     let r = layout::relation_at(table, i);
-    conflict(schema, r, mask, &table[a..a + 8], values)
+    conflict(schema, r, mask, &table[a..a + 12], values)
 }
 
 // Whether records `i` and `j` conflict on a key of the relation of record `i`.
@@ -67,5 +67,5 @@ pub fn records_conflict(schema: &[u64], table: &[u64], mask: u64, i: usize, j: u
     let r = layout::relation_at(table, i);
     let a = layout::base(i) + layout::HEAD_WORDS;
     let b = layout::base(j) + layout::HEAD_WORDS;
-    conflict(schema, r, mask, &table[a..a + 8], &table[b..b + 8])
+    conflict(schema, r, mask, &table[a..a + 12], &table[b..b + 12])
 }

@@ -6,4 +6,5 @@ pub mod Changed
 pub mod Copies
 pub mod Losers
 pub mod Lookups
+pub mod Figures
 pub mod Book

@@ -18,7 +18,7 @@ use Rattle.model.specs.Shown.{shown}
 use Rattle.model.specs.Merge.{merged, tooMany, changes}
 use Rattle.model.specs.Edits.{Edit, deltaOf, editedBy, insertion, update, deletion, recordAt}
 
--- Lengths: "97 words", "16 + 20N words, N from 0 to 4,096", "196 words", and marks "one byte per record, N bytes".
+-- Lengths (F-7): 129 words, 16 + 28N words with "N from 0 to 4,096", 380 words; and marks "one byte per record, N bytes".
 unfoldable pub schemaLength : List ℕ → Bool
 schemaLength s = eqb (length s) schemaWords
 

@@ -24,7 +24,7 @@ pub record Edit : Type 0 where
   pub clock : ℕ
   pub label : ℕ
 
--- "a delta, which is itself a table with N = 9 .. holds the replica number, the new clock, and only the changed records, in list order from 1".
+-- "a delta, which is itself a table" with N = 13 (F-7), "holds the replica number, the new clock, and only the changed records, in list order from 1".
 -- Changes of one record are joined.
 unfoldable pub deltaOf : ℕ → Table → Edit → Table
 deltaOf w v e = record { capacity = w + 1; replica = v .replica; clock = e .clock; records = inOrder (e .changed) }

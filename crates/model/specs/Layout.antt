@@ -1,4 +1,5 @@
--- The layout of schemas and tables (document 01, "Schema: 97 words of 64 bits", "Table: 16 + 20N words, N from 0 to 4,096").
+-- The layout of schemas and tables (document 01, "Schema" and "Table", with the figures of document 02, F-7: "records become 28 words (four, twelve
+-- values, twelve stamps), schemas 129 words with blocks of 16").
 -- Each number of the layout stands here and nowhere else.
 -- Assumes nothing.
 use Prim.Native.Nat.{ℕ, _+_, _*_, _-_, _/_}
@@ -9,9 +10,9 @@ use lib.ListN.{length, getD}
 abbrev pub wordBytes : ℕ
 wordBytes = 8
 
--- "eight field kinds", "eight values, eight stamps"
+-- F-7: "F may be 1 to 12", "twelve values, twelve stamps", "twelve kinds"
 abbrev pub fields : ℕ
-fields = 8
+fields = 12
 
 -- "the number of relations R, 1 to 8"
 abbrev pub mostRelations : ℕ
@@ -21,11 +22,11 @@ mostRelations = 8
 abbrev pub mostKeyFields : ℕ
 mostKeyFields = 4
 
--- "blocks of 12: field count F, eight field kinds, two key masks, a zero"
+-- F-7: "blocks of 16 (count, twelve kinds, two masks, zero)"
 abbrev pub blockWords : ℕ
 blockWords = fields + 4
 
--- "97 words": the number of relations, then eight blocks
+-- F-7: "schemas 129 words": the number of relations, then eight blocks
 abbrev pub schemaWords : ℕ
 schemaWords = 1 + mostRelations * blockWords
 
@@ -37,7 +38,7 @@ headerWords = 16
 abbrev pub headWords : ℕ
 headWords = 4
 
--- "next, relation, label, flag, eight values, eight stamps": 20 words
+-- F-7: "records become 28 words (four, twelve values, twelve stamps)"
 abbrev pub recordWords : ℕ
 recordWords = headWords + 2 * fields
 
@@ -45,11 +46,11 @@ recordWords = headWords + 2 * fields
 abbrev pub mostRecords : ℕ
 mostRecords = 4096
 
--- "a delta, which is itself a table with N = 9"
+-- F-7: "deltas have N = 13": the edited record, and a target for each field
 abbrev pub deltaRecords : ℕ
 deltaRecords = fields + 1
 
--- "The delta buffer is 196 words"
+-- F-7: "deltas have N = 13 and 380 words"
 abbrev pub deltaWords : ℕ
 deltaWords = headerWords + recordWords * deltaRecords
 
@@ -74,7 +75,7 @@ kindAt s r j = word s (block r + j)
 unfoldable pub maskAt : List ℕ → ℕ → ℕ → ℕ
 maskAt s r m = word s (block r + fields + m)
 
--- "Record i begins at word 16 + 20(i − 1)"
+-- "Record i begins at word 16 + 20(i − 1)", with 28 words a record
 unfoldable pub base : ℕ → ℕ
 base i = headerWords + recordWords * (i - 1)
 
@@ -115,7 +116,7 @@ usedAt t = word t usedWord
 unfoldable pub firstAt : List ℕ → ℕ → ℕ
 firstAt t r = word t (firstWords + (r - 1))
 
--- A record's words: "next, relation, label, flag, eight values, eight stamps". Fields are counted from 1.
+-- A record's words: "next, relation, label, flag", twelve values, twelve stamps. Fields are counted from 1.
 unfoldable pub nextAt : List ℕ → ℕ → ℕ
 nextAt t i = word t (base i)
 

@@ -20,6 +20,7 @@ pub mod Changed
 pub mod Copies
 pub mod Losers
 pub mod Lookups
+pub mod Figures
 pub mod Book
 pub mod Barn
 pub mod BookRuns

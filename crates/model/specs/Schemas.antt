@@ -1,4 +1,4 @@
--- Schemas (document 01, "Schema: 97 words of 64 bits").
+-- Schemas (document 01, "Schema", with the figures of document 02, F-7).
 -- Assumes nothing.
 use Prim.Native.Nat.{ℕ, _+_, _-_, _/_, _%_, _^_}
 use mathlib.Core.Bool.{Bool, cond, _||_, _&&_, not}
@@ -37,7 +37,7 @@ kindRule R k = eqb k plain || leb (abortKinds + 1) k && leb k (abortKinds + R) |
 abbrev pub maskRule : ℕ → ℕ → Bool
 maskRule F m = eqb m 0 || leb 1 (ones m) && leb (ones m) mostKeyFields && ltb m (2 ^ F)
 
--- "field count F (1 to 8)", "kinds above F are 0", and the block ends with "a zero".
+-- "F may be 1 to 12" (F-7), "kinds above F are 0", and the block ends with "a zero".
 unfoldable pub blockRule : List ℕ → ℕ → Bool
 blockRule s r =
     leb 1 (fieldCount s r) && leb (fieldCount s r) fields

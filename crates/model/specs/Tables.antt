@@ -40,7 +40,7 @@ decode t =
 unfoldable pub follower : List Rec → ℕ → ℕ → ℕ
 follower s r k = position (leastAbove k (only (λ (x : Rec). eqb (relation x) r) s)) s
 
--- "next, relation, label, flag, eight values, eight stamps"
+-- "next, relation, label, flag", twelve values, twelve stamps
 unfoldable pub encodeRecord : List Rec → Rec → List ℕ
 encodeRecord s x =
     follower s (relation x) (x .key) ∷ relation x ∷ label x ∷ x .cell .flag

@@ -244,7 +244,7 @@ fn blank(refs: &mut [u16], end: usize)
     }
 }
 
-// Each reference of the table, at 8 (i - 1) + (j - 1) for field `j` of record `i`: the position that it leads to, `ABSENT` where no
+// Each reference of the table, at FIELDS (i - 1) + (j - 1) for field `j` of record `i`: the position that it leads to, `ABSENT` where no
 // record has that key, and 0 where the field is no reference or is empty.
 pub fn resolve(schema: &[u64], table: &[u64], refs: &mut [u16])
     requires { ⌜ Checked (now schema) (now table) × (fields * usedAt (now table) ≤ length (now refs)) ⌝ }

@@ -16,7 +16,7 @@ use Rattle.model.specs.Lists.{lowest}
 use Rattle.model.specs.Calls.{schemaLength, schemaNumber}
 use Rattle.layout.proofs.Each.{each-more}
 
--- 1 moved up by at most eight digits
+-- 1 moved up by at most as many digits as a record has fields
 pub power : (n : ℕ) → n ≤ fields → (1 * 2 ^ n) % 18446744073709551616 ≡ 2 ^ n
 power n h = let p = pow-lt {i = n} {j = 64} (omega arith) in rw (one-mul (2 ^ n)) (mod-eq-of-lt p)
 

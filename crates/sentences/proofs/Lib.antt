@@ -6,5 +6,7 @@ pub mod Edges
 pub mod Changed
 pub mod Compared
 pub mod Lookup
+pub mod Twelve
+pub mod Old
 pub mod Book
 pub mod BookRuns

@@ -8,7 +8,7 @@ use lib.Dec.{eqb}
 use lib.ListN.{length, replicate}
 use Rattle.crdt.specs.Labels.{largestCounter, labelOf}
 use Rattle.crdt.specs.Flags.{largestFlag}
-use Rattle.model.specs.Layout.{headerWords, recordWords, deltaWords, clockAt, usedAt, flagAt}
+use Rattle.model.specs.Layout.{schemaWords, headerWords, recordWords, deltaRecords, deltaWords, clockAt, usedAt, flagAt}
 use Rattle.model.specs.Calls.{schemaNumber, tableNumber, startNumber, startTable, mergeNumber, mergeTable, marksNumber, marksCount, marksMarks, walkNumber, walkGiven, walkEnded, walkPlace, insertionNumber, insertionLabel, insertionTable, insertionDelta, updateNumber, updateTable, updateDelta, deletionNumber, deletionTable, deletionDelta, Entry, shownList}
 use Rattle.model.specs.Cases.{herd, header, row, sameWords, sameEntries}
 
@@ -66,7 +66,7 @@ unfoldable pub buffers : Bool
 buffers =
     let t = header 1 1 (1 ∷ []) ++ (groupRow 0 early 0 12 ++ replicate recordWords 0) in
     eqb (insertionNumber herd t oldBuffer 1 (13 ∷ [])) 0 && eqb (updateNumber herd t oldBuffer 1 1 13) 0 && eqb (deletionNumber herd t oldBuffer 1) 0
-    && sameWords (insertionDelta herd t oldBuffer 1 (13 ∷ [])) (header 2 1 (1 ∷ []) ++ (groupRow 0 late 0 13 ++ replicate (8 * recordWords) 0))
+    && sameWords (insertionDelta herd t oldBuffer 1 (13 ∷ [])) (header 2 1 (1 ∷ []) ++ (groupRow 0 late 0 13 ++ replicate ((deltaRecords - 1) * recordWords) 0))
     && sameWords (insertionDelta herd t buffer 1 (13 ∷ [])) (insertionDelta herd t oldBuffer 1 (13 ∷ []))
     && sameWords (updateDelta herd t buffer 1 1 13) (updateDelta herd t oldBuffer 1 1 13)
     && sameWords (deletionDelta herd t buffer 1) (deletionDelta herd t oldBuffer 1)
@@ -101,7 +101,7 @@ deletedBefore =
 
 -- A schema of one relation, whose only field has kind k: 17 references the relation by abort, 33 by propagation.
 unfoldable pub selfSchema : ℕ → List ℕ
-selfSchema k = 1 ∷ 1 ∷ k ∷ replicate 94 0
+selfSchema k = 1 ∷ 1 ∷ k ∷ replicate (schemaWords - 3) 0
 
 -- Two records of it, 1.1 that references 2.1, and 2.1 that references l.
 unfoldable pub pair : ℕ → List ℕ

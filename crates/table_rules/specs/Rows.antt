@@ -1,4 +1,4 @@
--- The rules of a record by its own words alone, with its counters: what one pass over a record's twenty words tests.
+-- The rules of a record by its own words alone, with its counters: what one pass over a record's words tests.
 -- Assumes nothing.
 use Prim.Native.Nat.{ℕ, _+_, _-_}
 use mathlib.Core.Bool.{Bool, cond, _||_, _&&_, not}
@@ -23,6 +23,11 @@ countersUnder clock kind value stamp = leb (counterOf stamp) clock && (not (isRe
 unfoldable pub fieldPlaced : ℕ → ℕ → ℕ → ℕ → ℕ → ℕ → Bool
 fieldPlaced clock count j kind value stamp =
     cond (leb j count) (fieldRule kind value stamp) (eqb value 0 && eqb stamp 0) && countersUnder clock kind value stamp
+
+-- fields 1 to n of row x under block b
+unfoldable pub fieldsGoodTo : ℕ → ℕ → List ℕ → List ℕ → Bool
+fieldsGoodTo n clock b x =
+    each n (λ j. fieldPlaced clock (word b 0) j (word b j) (word x (headWords - 1 + j)) (word x (headWords - 1 + fields + j)))
 
 -- the fields of row x under block b
 unfoldable pub fieldsGood : ℕ → List ℕ → List ℕ → Bool

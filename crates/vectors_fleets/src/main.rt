@@ -38,7 +38,7 @@ fn run(s: &[u8], own: &mut [u64], third: &mut [u64]) {
     let mut schema = [0u64; stream::SCHEMA_WORDS];
     let mut values = [0u64; stream::VALUES];
     let mut fleet = [0u64; slots::WORDS];
-    let mut delta = [0; 196];
+    let mut delta = [0; 380];
     let mut counts = [0u64; tally::COUNTS];
     let begin = stream::load(s, stream::begin(0), &mut rows);
     run_all(

@@ -7,7 +7,7 @@ use crate::book::{
 };
 use crate::cases::record;
 use crate::label::{label_of, LABELS};
-use crate::layout::{self, LABEL, RELATION, USED};
+use crate::layout::{self, FIELDS, LABEL, RELATION, USED};
 use crate::random::{self, Random, Shape};
 use crate::schema::{read, Kind};
 use crate::vectors::{self, BOOK_CHANGE, BOOK_ENTER, BOOK_FIND, BOOK_STRIKE};
@@ -60,7 +60,7 @@ fn order_of_checks() {
     let records = vec![record(GROUP, 257, 0, &[12]), record(ROBOT, 513, 0, &[12])];
     let mut own = made(&schema(), 2, records).words();
     let changed = |own: &mut [u64], kind, index, delta: &mut [u64]| {
-        number(&change(own, delta, kind, index, 9, 0))
+        number(&change(own, delta, kind, index, FIELDS as u64 + 1, 0))
     };
     assert_eq!(changed(&mut own, ROBOT, 1, &mut delta()), 6);
     assert_eq!(changed(&mut own, GROUP, 1, &mut delta()), 7);

@@ -1,10 +1,19 @@
 //! The vectors.
 
 use super::stream;
-use crate::vectors;
+use crate::layout::{self, CAPACITY};
+use crate::vectors::{self, Slice};
 
-/// The bytes of a stream that a vector program holds.
+/// The bytes of a stream that a vector program holds, and the words of each slice.
 const LARGEST_STREAM: usize = 3_200_000;
+
+fn largest(slice: Slice) -> usize {
+    match slice {
+        Slice::Schema => 256,
+        Slice::Table | Slice::Third => layout::table(CAPACITY + 4),
+        Slice::Values => 64,
+    }
+}
 
 #[test]
 fn vectors_are_enough() {
@@ -52,5 +61,15 @@ fn each_program_has_its_items() {
         let stream = vectors::write(&of(program));
         assert!(stream.len() <= LARGEST_STREAM, "{}", program);
         assert!(vectors::expect(&stream).ends_with("\nmismatches 0\n"), "{}", program);
+    }
+}
+
+#[test]
+fn slices_have_room() {
+    for item in vectors::vectors(1) {
+        let shape = vectors::shape_of(item.call).unwrap();
+        for (slice, words) in shape.slices.iter().zip(&item.slices) {
+            assert!(words.len() <= largest(*slice), "{:?} {}", slice, words.len());
+        }
     }
 }

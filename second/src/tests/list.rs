@@ -55,10 +55,11 @@ fn list_runs() {
         let first = text.lines().next().unwrap_or("");
         let wanted = match name.as_str() {
             "c5" | "losers" => "shown 2",
+            "field-12" => "shown 3",
             "empty-reference" => "shown 1",
             "n-0" => "shown 0",
-            "n-300" => "shown 300",
-            "schema-broken" => "refused 2",
+            "n-200" | "n-200-longest" => "shown 200",
+            "schema-broken" | "old-form-n-3" => "refused 2",
             "table-damaged" => "refused 3",
             _ => "refused 1",
         };

@@ -9,6 +9,9 @@ use crate::{
     walk,
 };
 
+/// A field that no relation has.
+const NO_FIELD: u64 = FIELDS as u64 + 1;
+
 #[test]
 fn order_of_checks() {
     let (good, broken) = (herd(), vec![0; layout::SCHEMA]);
@@ -22,11 +25,11 @@ fn order_of_checks() {
     assert_eq!(number(&start(&mut own[..HEADER + 1], 0)), 1);
     assert_eq!(number(&start(&mut own, 0)), 5);
     assert_eq!(number(&start(&mut own, 256)), 5);
-    assert_eq!(number(&update(&broken, &mut own, &mut delta(), 1, 9, 0)), 1);
+    assert_eq!(number(&update(&broken, &mut own, &mut delta(), 1, NO_FIELD, 0)), 1);
     own[USED] = 1;
-    assert_eq!(number(&update(&broken, &mut own, &mut delta(), 2, 9, 0)), 1);
-    assert_eq!(number(&update(&broken, &mut own, &mut delta(), 1, 9, 0)), 2);
-    assert_eq!(number(&update(&good, &mut own, &mut delta(), 1, 9, 0)), 3);
+    assert_eq!(number(&update(&broken, &mut own, &mut delta(), 2, NO_FIELD, 0)), 1);
+    assert_eq!(number(&update(&broken, &mut own, &mut delta(), 1, NO_FIELD, 0)), 2);
+    assert_eq!(number(&update(&good, &mut own, &mut delta(), 1, NO_FIELD, 0)), 3);
     own[USED] = u64::MAX;
     assert_eq!(number(&deletion(&broken, &mut own, &mut delta(), 2)), 1);
     assert_eq!(number(&deletion(&broken, &mut own, &mut delta(), 1)), 2);
@@ -88,7 +91,7 @@ fn order_of_edit_checks() {
     table.capacity = 5;
     let mut words = table.words();
     assert_eq!(number(&insertion(&schema, &mut words, &mut delta(), 2, &[42, 513])), 12);
-    assert_eq!(number(&update(&schema, &mut words, &mut delta(), 4, 9, 0)), 6);
+    assert_eq!(number(&update(&schema, &mut words, &mut delta(), 4, NO_FIELD, 0)), 6);
     assert_eq!(number(&update(&schema, &mut words, &mut delta(), 3, 3, 0)), 7);
     assert_eq!(number(&update(&schema, &mut words, &mut delta(), 3, 2, 255)), 7);
     assert_eq!(number(&update(&schema, &mut words, &mut delta(), 3, 2, 257)), 8);

@@ -16,7 +16,7 @@ enum Demand {
 use Demand::{Decided, Follows};
 
 /// How many items must decide a rule of the redoing, of how much a merge changed, of which copy is
-/// ahead, of what is known, of the herd book, or of losers that block nobody.
+/// ahead, of what is known, of the herd book, of losers that block nobody, or of twelve fields.
 const MANY: usize = 20;
 
 /// Every rule has its line here: a match without one does not compile.
@@ -159,7 +159,32 @@ fn demand(rule: Rule) -> Demand {
         | Rule::FirstKeyNotBefore
         | Rule::SecondKeyNotBefore
         | Rule::ConflictWithLosers
-        | Rule::GuardedByLosers => Decided(MANY),
+        | Rule::GuardedByLosers
+        | Rule::FieldsToTwelve
+        | Rule::KindsToTwelve
+        | Rule::ZeroKindsToTwelve
+        | Rule::KeysToTwelve
+        | Rule::RegistersToTwelve
+        | Rule::UnusedToTwelve
+        | Rule::CompleteToTwelve
+        | Rule::ValuesToTwelve
+        | Rule::ReachedToTwelve
+        | Rule::ClosedToTwelve
+        | Rule::JoinToTwelve
+        | Rule::ChangesToTwelve
+        | Rule::ComparedToTwelve
+        | Rule::StampsToTwelve
+        | Rule::InsertionTargetsToTwelve
+        | Rule::NewTargetToTwelve
+        | Rule::OldTargetToTwelve
+        | Rule::UpdateSupportToTwelve
+        | Rule::DeletionTargetsToTwelve
+        | Rule::DeletionSupportToTwelve
+        | Rule::FieldNumberToTwelve
+        | Rule::ReferencesToTwelve
+        | Rule::TargetsShownToTwelve
+        | Rule::GuardedToTwelve
+        | Rule::DeltaToThirteen => Decided(MANY),
         Rule::LargerStamp
         | Rule::LargerValue
         | Rule::LargerFlag
@@ -419,6 +444,48 @@ fn losers_are_decided_by_each_call() {
             &[vectors::INSERTION, vectors::UPDATE, vectors::BOOK_ENTER, vectors::BOOK_CHANGE],
         ),
         (Rule::GuardedByLosers, &[vectors::DELETION, vectors::BOOK_STRIKE]),
+    ] {
+        for call in calls {
+            let of_call: Vec<(Item, Outcome)> =
+                items.iter().filter(|(item, _)| item.call == *call).cloned().collect();
+            let count = without(rule, || differences(&of_call));
+            assert!(count >= MANY / 2, "{:?} {} {}", rule, call, count);
+        }
+    }
+}
+
+/// Fields 9 to 12 decide items of each call that looks at them.
+#[test]
+fn twelve_fields_are_decided_by_each_call() {
+    let items = single_items();
+    for (rule, calls) in [
+        (
+            Rule::FieldsToTwelve,
+            &[
+                vectors::SCHEMA_CHECK,
+                vectors::TABLE_CHECK,
+                vectors::MERGE,
+                vectors::COMPARE,
+                vectors::LOOKUP,
+                vectors::MARKS,
+                vectors::INSERTION,
+                vectors::UPDATE,
+                vectors::DELETION,
+            ][..],
+        ),
+        (
+            Rule::KeysToTwelve,
+            &[vectors::SCHEMA_CHECK, vectors::MARKS, vectors::INSERTION, vectors::UPDATE],
+        ),
+        (Rule::RegistersToTwelve, &[vectors::TABLE_CHECK, vectors::LOOKUP]),
+        (Rule::UnusedToTwelve, &[vectors::TABLE_CHECK, vectors::LOOKUP]),
+        (Rule::JoinToTwelve, &[vectors::MERGE, vectors::COMPARE]),
+        (Rule::CompleteToTwelve, &[vectors::MARKS]),
+        (Rule::ReachedToTwelve, &[vectors::MARKS]),
+        (Rule::ClosedToTwelve, &[vectors::MARKS]),
+        (Rule::ReferencesToTwelve, &[vectors::INSERTION, vectors::UPDATE]),
+        (Rule::TargetsShownToTwelve, &[vectors::INSERTION, vectors::UPDATE]),
+        (Rule::DeltaToThirteen, &[vectors::INSERTION, vectors::DELETION]),
     ] {
         for call in calls {
             let of_call: Vec<(Item, Outcome)> =

@@ -21,11 +21,17 @@ mod loser_edits;
 mod loser_fleets;
 mod losers;
 mod merges;
+mod new_field_edits;
+mod new_field_fleets;
+mod new_field_lists;
+mod new_fields;
+mod old_words;
 mod redoing;
 mod scalars;
 mod schemas;
 mod sources;
 mod tables;
+mod treatments;
 
 pub use fleets::{begin as some_fleet, next as next_of_fleet};
 pub use sources::{called_table, random_edit};
@@ -86,5 +92,10 @@ pub fn vectors(seed: u64) -> Vec<Item> {
     loser_fleets::loser_fleets(&mut items, &mut random);
     lookups::lookups(&mut items, &mut random);
     lookup_damage::lookup_damage(&mut items, &mut random);
+    new_fields::new_fields(&mut items, &mut random);
+    new_field_lists::new_field_lists(&mut items, &mut random);
+    new_field_edits::new_field_edits(&mut items, &mut random);
+    new_field_fleets::new_field_fleets(&mut items, &mut random);
+    old_words::old_words(&mut items, &mut random);
     items.into_items()
 }

@@ -125,7 +125,7 @@ pub const SHAPES: [Shape; 32] = [
 ];
 
 /// The names of the categories, from category 1 on.
-pub const CATEGORIES: [&str; 102] = [
+pub const CATEGORIES: [&str; 121] = [
     "labels, registers and flags",
     "schemas at their limits",
     "schemas with one rule broken",
@@ -228,6 +228,25 @@ pub const CATEGORIES: [&str; 102] = [
     "lookup: relations that are not 1 to R",
     "lookup: lengths and schemas, and the order of the refusals",
     "lookup: capacities 0 and 4,096",
+    "twelve fields: F of 9 to 13, and their kinds",
+    "twelve fields: key masks with fields 9 to 13",
+    "twelve fields: unused fields, stamps and registers of fields 9 to 12",
+    "twelve fields: merges that change one of fields 9 to 12",
+    "twelve fields: merges of deltas of 13 records",
+    "twelve fields: comparisons of copies that differ in one of fields 9 to 12",
+    "twelve fields: lookups with damage in fields 9 to 12",
+    "twelve fields: a record's twelve values",
+    "twelve fields: marks and keys of fields 9 to 12",
+    "twelve fields: marks and references in fields 9 to 12",
+    "twelve fields: conflicts on keys of fields 9 to 12",
+    "twelve fields: edits and references in fields 9 to 12",
+    "twelve fields: redoing by fields 9 to 12",
+    "twelve fields: deltas of 13 records",
+    "twelve fields: field numbers and value counts",
+    "twelve fields: fleets",
+    "old words: schemas of 97 words, deltas of 196",
+    "old words: tables of a length that no new one has",
+    "old words: tables of a length that a new one has",
 ];
 
 pub fn shape_of(call: u8) -> Option<&'static Shape> {

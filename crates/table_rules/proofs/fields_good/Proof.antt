@@ -1,6 +1,6 @@
 -- `table_rules::fields_good` meets its contract.
 -- Assumes nothing.
-use Prim.Native.Nat.{_≤_, _-_, _+_}
+use Prim.Native.Nat.{_≤_, _-_, _+_, _/_}
 use mathlib.Core.Path.{_≡_, refl, sym, _∙_}
 use mathlib.Core.Bool.{true}
 use native.Mathlib.Omega.{arith}
@@ -8,17 +8,17 @@ use borrow.Author.Tests.{not-true, not-false}
 use Rattle.model.specs.Layout.{fields, headWords, word}
 use Rattle.model.specs.Lists.{each}
 use Rattle.layout.proofs.Each.{each-none, each-next, each-fail}
-use Rattle.table_rules.specs.Rows.{fieldPlaced, fieldsGood}
+use Rattle.table_rules.specs.Rows.{fieldPlaced, fieldsGoodTo, fieldsGood}
 use Rattle.table_rules.proofs.Rows.{field-turn}
 use borrow.Author.Needs.{needs}
 use Rattle.table_rules.proofs.fields_good.Statement.{statement}
 use Rattle.table_rules.proofs.fields_good.Tie as tie
 
 abbrev Inv-loop : tie.InvT-loop
-Inv-loop clock block row count j₀ j = (j ≤ fields) × (count ≡ word block 0) × (each j (λ j. fieldPlaced clock (word block 0) j (word block j) (word row (headWords - 1 + j)) (word row (headWords - 1 + fields + j))) ≡ true)
+Inv-loop clock block row count j₀ j = (j ≤ fields / 2) × (count ≡ word block 0) × (each j (λ j. fieldPlaced clock (word block 0) j (word block j) (word row (headWords - 1 + j)) (word row (headWords - 1 + fields + j))) ≡ true)
 
 abbrev μ-loop : tie.MeasureT-loop
-μ-loop clock block row count j₀ j = fields - j
+μ-loop clock block row count j₀ j = fields / 2 - j
 
 shared-slice-read-count : tie.Need-shared-slice-read-count Inv-loop μ-loop
 shared-slice-read-count c = search needs
@@ -80,9 +80,15 @@ loop-again c =
           (sym (field-turn _ (c .before .before .before .before .before .before .before .before .before .before .args .block .now) (c .before .before .before .before .before .before .before .before .before .before .args .row .now) j _ _ _ _ _ refl refl refl refl (c .before .field-placed .ensures)) ∙ not-false _ (c .if1 .left)),
     )
 
+rest-good-requires : tie.Need-rest-good-requires Inv-loop μ-loop
+unfolding fieldsGoodTo
+rest-good-requires c κs =
+    let p = c .before .before .before .before .before .pre in
+    let e : c .before .loop .j ≡ fields / 2 = omega arith in
+    (p .0, p .1, p .2, rw e at (c .before .loop .inv .2))
+
 returns-2 : tie.Need-returns-2 Inv-loop μ-loop
-unfolding fieldsGood
-returns-2 c = let e : c .before .loop .j ≡ fields = omega arith in sym (rw e at (c .before .loop .inv .2))
+returns-2 c = c .rest-good .ensures
 
 pub fields-good-spec : {M : Type 1} → statement M
 fields-good-spec =
@@ -106,4 +112,5 @@ fields-good-spec =
     returns
     loop-less
     loop-again
+    rest-good-requires
     returns-2)

@@ -7,7 +7,7 @@ use super::items::Items;
 use super::sources::delta_words;
 use crate::book::{self, CLEANING, COW, GROUP, KINDS, MILKING, ROBOT, TREATMENT};
 use crate::label::Register;
-use crate::layout::{self, RECORD, USED};
+use crate::layout::{self, FIELDS, RECORD, USED};
 use crate::random::{self, Random};
 use crate::schema::Kind;
 use crate::table;
@@ -155,7 +155,7 @@ impl Attempt<'_> {
     /// A field that there is not.
     fn no_field(&mut self) {
         let beyond = fields(self.kind).len() as u64 + 1;
-        self.field = self.made.random.pick(&[0, beyond, 9, u64::MAX]);
+        self.field = self.made.random.pick(&[0, beyond, FIELDS as u64 + 1, u64::MAX]);
     }
 
     /// The flag of what is named by abort cannot be redone: the entry names it, the change names it

@@ -37,7 +37,9 @@ pub fn break_schema(random: &mut Random, words: &mut [u64]) {
         9 => {
             words[block + FIELD_COUNT] = MOST_FIELDS;
             words[block + KINDS..block + MASKS].fill(PLAIN);
-            words[mask] = random.pick(&[31, 255, 0b1101_1010, 248]);
+            let five = [layout::mask(&[1, 2, 3, 4, 5]), layout::mask(&[8, 9, 10, 11, 12])];
+            let more = [layout::mask(&[2, 4, 5, 9, 12]), (1 << MOST_FIELDS) - 1];
+            words[mask] = random.pick(&[five, more].concat());
         }
         10 => words[block + BLOCK_ZERO] = random.pick(&[1, u64::MAX]),
         11 if relations < MOST_RELATIONS => {
@@ -102,10 +104,13 @@ pub fn break_table(random: &mut Random, schema: &[u64], words: &mut [u64]) {
             words[begin + RELATION] = words[begin + RELATION] % relations + 1;
         }
         11 => words[begin + LABEL] = random.pick(&[0, 5, 256, 1 << 48, u64::MAX]),
-        12 => words[begin + LABEL] = label_of((clock + 1).min(LARGEST_COUNTER), 1),
+        12 => words[begin + LABEL] = label_of(clock.saturating_add(1).min(LARGEST_COUNTER), 1),
         13 => words[begin + FLAG] = random.pick(&[65_536, 65_537, u64::MAX]),
         14 => words[begin + STAMPS + field] = random.pick(&[1, 256, 1 << 48, u64::MAX]),
-        15 => words[begin + STAMPS + field] = label_of((clock + 1).min(LARGEST_COUNTER), 1),
+        15 => {
+            words[begin + STAMPS + field] =
+                label_of(clock.saturating_add(1).min(LARGEST_COUNTER), 1)
+        }
         16 => {
             words[begin + STAMPS + field] = 0;
             words[begin + VALUES + field] = words[begin + VALUES + field].max(1);

@@ -28,6 +28,14 @@ impl Items {
         answer
     }
 
+    /// Pushes an item, from which this answer must come back; gives all that comes back.
+    pub fn push_with(&mut self, answer: u64, item: Item) -> Outcome {
+        let back = self.tried(&item);
+        assert_eq!(back.answer, answer, "{:?}", item);
+        self.push_item(item);
+        back
+    }
+
     pub fn push_edit(
         &mut self,
         category: u8,

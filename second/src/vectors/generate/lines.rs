@@ -4,7 +4,7 @@
 use super::sources::{capacity, marks_words};
 use crate::cases::{record, schema_words};
 use crate::label::{counter, label_of, replica, Register, LARGEST_FLAG, LARGEST_REPLICA, NONE};
-use crate::layout::{abort, propagation, FIELDS, PLAIN};
+use crate::layout::{abort, mask, propagation, FIELDS, PLAIN};
 use crate::random::{self, Random};
 use crate::schema::{Kind, Relation};
 use crate::shown::references;
@@ -27,7 +27,7 @@ pub fn schemas() -> Vec<Vec<u64>> {
         (&[propagation(to), plain, abort(to)], 0b010, 0b001),
         (&[plain, abort(to), plain, propagation(to)], 0b0100, 0b0011),
         (&[plain, plain, abort(to), propagation(to)], 0b0011, 0b0110),
-        (&[plain; FIELDS], 0b0000_1111, 0b1111_0000),
+        (&[plain; FIELDS], mask(&[1, 2, 3, 4]), mask(&[9, 10, 11, 12])),
     ];
     let holder = [abort(LINE), propagation(LINE), plain];
     of_line.map(|line| schema_words(&[(&[plain], 1, 0), line, (&holder, 0, 0)])).to_vec()

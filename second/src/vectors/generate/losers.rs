@@ -22,7 +22,7 @@ const CROWDED: u8 = 80;
 const ENOUGH: u64 = 72;
 
 /// Pushes walks over marks from place 0 to the end.
-fn walks(items: &mut Items, category: u8, schema: &[u64], words: &[u64], marks: &[u64]) {
+pub fn walks(items: &mut Items, category: u8, schema: &[u64], words: &[u64], marks: &[u64]) {
     let mut place = None;
     let mut next = 0;
     while place != Some(next) {

@@ -4,8 +4,8 @@ use super::damage::break_schema;
 use super::items::Items;
 use crate::cases::{herd, schema_words};
 use crate::layout::{
-    self, abort, propagation, ABORT, BLOCK, BLOCK_ZERO, FIELDS, FIELD_COUNT, KINDS, MASKS, PLAIN,
-    PROPAGATION, RELATIONS, RELATION_COUNT,
+    self, abort, mask, propagation, ABORT, BLOCK, BLOCK_ZERO, FIELDS, FIELD_COUNT, KINDS, MASKS,
+    OLD, PLAIN, PROPAGATION, RELATIONS, RELATION_COUNT,
 };
 use crate::random::{self, Random};
 use crate::vectors::item::SCHEMA_CHECK;
@@ -13,7 +13,7 @@ use crate::vectors::item::SCHEMA_CHECK;
 /// A schema at a limit of its rules.
 pub fn limit_schema(random: &mut Random) -> Vec<u64> {
     match random.below(8) {
-        0 => schema_words(&[(&[PLAIN; FIELDS], 15, 240)]),
+        0 => schema_words(&[(&[PLAIN; FIELDS], mask(&[1, 2, 3, 4]), mask(&[9, 10, 11, 12]))]),
         1 => schema_words(&[(&[abort(1), propagation(1), PLAIN, PLAIN], 15, 15)]),
         2 => schema_words(&[
             (&[PLAIN, abort(2), propagation(2)], 0, 7),
@@ -21,7 +21,7 @@ pub fn limit_schema(random: &mut Random) -> Vec<u64> {
         ]),
         3 => schema_words(&[(&[abort(8), propagation(8), PLAIN][..], 4, 2); RELATIONS]),
         4 => schema_words(&[(&[PLAIN], 0, 0)]),
-        5 => schema_words(&[(&[PLAIN; FIELDS][..], 0b1010_0101, 128); 3]),
+        5 => schema_words(&[(&[PLAIN; FIELDS][..], mask(&[1, 3, 10, 12]), mask(&[12])); 3]),
         6 => random::wide(),
         _ => random::schema(random),
     }
@@ -56,7 +56,7 @@ fn schema_pair(rule: u64, base: &[u64], block: usize) -> (Vec<u64>, Vec<u64>) {
         4 => (with(&[(kind, PLAIN)]), with(&[(kind, 0)])),
         5 => (with(&[(kind, PLAIN)]), with(&[(kind, PLAIN + 1)])),
         6 => (full(most, 0), full(most + 1, 0)),
-        7 => (full(most, 0b1001_1010), full(most, 0b1001_1011)),
+        7 => (full(most, mask(&[2, 4, 5, 12])), full(most, mask(&[1, 2, 4, 5, 12]))),
         8 => (full(most, 1 << (most - 1)), full(most, 1 << most)),
         9 => {
             let (last, next) = (1 << (fields - 1), 1 << fields);
@@ -105,7 +105,7 @@ pub fn schemas(items: &mut Items, random: &mut Random) {
         items.push(if round % 3 == 2 { 4 } else { 3 }, SCHEMA_CHECK, vec![words], vec![]);
     }
     let whole = layout::SCHEMA;
-    for length in [0, 1, BLOCK, BLOCK + 1, whole - 1, whole + 1, whole + BLOCK, layout::DELTA] {
+    for length in [0, 1, BLOCK, BLOCK + 1, whole - 1, whole + 1, whole + BLOCK, OLD.schema()] {
         for first in [0, 1, 3, 9] {
             let mut words = herd();
             words.resize(length, 0);

@@ -1,7 +1,7 @@
 //! The tables, deltas, marks and edits that the items are made of.
 
 use crate::label::label_of;
-use crate::layout::{self, HEADER, RECORD, REPLICA, USED};
+use crate::layout::{self, FIELDS, HEADER, RECORD, RELATIONS, REPLICA, USED};
 use crate::random::{self, Random, Shape as TableShape};
 use crate::schema::Kind;
 use crate::table::{self, Table};
@@ -52,14 +52,15 @@ pub fn random_edit(random: &mut Random, schema: &[u64], own: &[u64]) -> Edit {
     let kind = if table.records.is_empty() { random.below(9) / 2 } else { random.below(10) };
     if kind < 4 {
         let relation = random.below(decoded.relations.len() as u64) + 1;
-        let relation = if random.chance(1, 24) { random.pick(&[0, 9, u64::MAX]) } else { relation };
+        let wrong = [0, RELATIONS as u64 + 1, u64::MAX];
+        let relation = if random.chance(1, 24) { random.pick(&wrong) } else { relation };
         let kinds = decoded.relation(relation).map_or(vec![], |of| of.kinds.clone());
         let mut values: Vec<u64> = Vec::new();
         for (field, kind) in kinds.iter().enumerate() {
             values.push(value(random, &table, &shown, relation, (field, *kind)));
         }
         if random.chance(1, 24) {
-            values.resize(random.below(10) as usize, 0);
+            values.resize(random.below(FIELDS as u64 + 2) as usize, 0);
         }
         Edit::Insertion { relation, values }
     } else if kind < 8 {
@@ -67,7 +68,8 @@ pub fn random_edit(random: &mut Random, schema: &[u64], own: &[u64]) -> Edit {
         let relation = record.map_or(0, |record| record.relation);
         let kinds = decoded.relation(relation).map_or(vec![], |of| of.kinds.clone());
         let field = 1 + random.below(kinds.len().max(1) as u64);
-        let field = if random.chance(1, 24) { random.pick(&[0, 9, u64::MAX]) } else { field };
+        let wrong = [0, FIELDS as u64 + 1, u64::MAX];
+        let field = if random.chance(1, 24) { random.pick(&wrong) } else { field };
         let column = (field as usize).wrapping_sub(1);
         let kind = kinds.get(column).copied().unwrap_or(Kind::Plain);
         let column = column.min(kinds.len().saturating_sub(1));
