@@ -47,11 +47,11 @@ extern "C" {
 #endif
 
 /*
- * The version of this header, as one number: 3.1.0 is 30100. A change of a parameter list, of a layout figure or of what a call answers
+ * The version of this header, as one number: 4.0.0 is 40000. A change of a parameter list, of a layout figure or of what a call answers
  * raises the major part, an addition the minor part, anything else the patch. CHANGELOG.md tells what changed.
  */
-#define HERD_VERSION_MAJOR 3
-#define HERD_VERSION_MINOR 1
+#define HERD_VERSION_MAJOR 4
+#define HERD_VERSION_MINOR 0
 #define HERD_VERSION_PATCH 0
 #define HERD_VERSION (HERD_VERSION_MAJOR * 10000 + HERD_VERSION_MINOR * 100 + HERD_VERSION_PATCH)
 
@@ -110,7 +110,7 @@ typedef uint64_t herd_label;
 #define HERD_REPLICA(label) ((uint64_t)(label) % 256)
 
 /*
- * The schema: 97 words. Word 0 is the number of relations, 1 to 8; then a block of 12 words for each: field count, eight kinds, two
+ * The schema: 129 words. Word 0 is the number of relations, 1 to 8; then a block of 16 words for each: field count, twelve kinds, two
  * key masks, a zero. What is not used is 0. Relations and fields count from 1.
  *
  *   static const herd_schema FARM = {
@@ -118,8 +118,14 @@ typedef uint64_t herd_label;
  *       HERD_RELATION(HERD_FIELD(1), 0, HERD_PLAIN),
  *       HERD_RELATION(HERD_FIELD(1) | HERD_FIELD(2), 0, HERD_PLAIN, HERD_ABORT(1)),
  *   };
+ *
+ * A treatment with all twelve fields: diagnosis, dose, route, quarter, vet, price, first and last withheld minute, receipt, drug, minute,
+ * and its cow, who is of relation 2. The keys are the receipt, and drug, minute and cow together.
+ *
+ *       HERD_RELATION(HERD_FIELD(9), HERD_FIELD(10) | HERD_FIELD(11) | HERD_FIELD(12), HERD_PLAIN, HERD_PLAIN, HERD_PLAIN, HERD_PLAIN,
+ *                     HERD_PLAIN, HERD_PLAIN, HERD_PLAIN, HERD_PLAIN, HERD_PLAIN, HERD_PLAIN, HERD_PLAIN, HERD_PROPAGATION(2)),
  */
-#define HERD_FIELDS 8
+#define HERD_FIELDS 12
 #define HERD_MOST_RELATIONS 8
 #define HERD_MOST_KEY_FIELDS 4
 #define HERD_BLOCK_WORDS (HERD_FIELDS + 4)
@@ -176,9 +182,13 @@ typedef uint64_t herd_schema[HERD_SCHEMA_WORDS];
 #define HERD_KEY_WORDS (HERD_KIND_WORDS + HERD_FIELDS)
 
 /*
- * The table: 16 + 20N words, N from 0 to 4,096. A table file or message is these words, little-endian (herd_words_to_bytes).
+ * The table: 16 + 28N words, N from 0 to 4,096. A table file or message is these words, little-endian (herd_words_to_bytes).
  *
- *   uint64_t table[HERD_TABLE_WORDS(300)];
+ *   uint64_t table[HERD_TABLE_WORDS(200)];
+ *
+ * Up to version 3.1.0 there were eight fields and 16 + 20N words. Where N is a multiple of 7 that is the length of a table of this version
+ * too, which is then judged by its words, and an empty one is well-formed. So lengths do not tell the two apart: keep them apart by the
+ * version that wrote them.
  */
 #define HERD_HEADER_WORDS 16
 #define HERD_HEAD_WORDS 4
@@ -201,7 +211,7 @@ typedef uint64_t herd_schema[HERD_SCHEMA_WORDS];
 #define HERD_VALUE_WORDS HERD_HEAD_WORDS
 #define HERD_STAMP_WORDS (HERD_VALUE_WORDS + HERD_FIELDS)
 
-/* A delta, what an edit changed, is a table of nine records, 196 words. It need not be zeroed again between edits. */
+/* A delta, what an edit changed, is a table of thirteen records, 380 words. It need not be zeroed again between edits. */
 #define HERD_DELTA_RECORDS (HERD_FIELDS + 1)
 #define HERD_DELTA_WORDS (HERD_HEADER_WORDS + HERD_RECORD_WORDS * HERD_DELTA_RECORDS)
 
@@ -210,7 +220,8 @@ typedef uint64_t herd_delta[HERD_DELTA_WORDS];
 /*
  * The stack that each call needs at most, in bytes, without what interrupts, signals and lazy dynamic linking take. Measured by
  * tools/stack on tables of 4,096 records; the calls do not recurse, and their arrays have fixed sizes, so that a small table needs as
- * much.
+ * much. Of an edit and of the marks 96 KiB are the resolved references, two bytes for each field of each record, and 32 KiB the keys of
+ * the records; up to version 3.1.0, with eight fields, the references took 64 KiB.
  */
 #define HERD_STACK_VERSION 64
 #define HERD_STACK_SCHEMA_CHECK 192
@@ -219,13 +230,13 @@ typedef uint64_t herd_delta[HERD_DELTA_WORDS];
 #define HERD_STACK_MERGE 512
 #define HERD_STACK_COMPARE 512
 #define HERD_STACK_LOOKUP 320
-#define HERD_STACK_INSERT 119232
-#define HERD_STACK_UPDATE 119296
-#define HERD_STACK_DELETE 119168
-#define HERD_STACK_MARKS 110976
+#define HERD_STACK_INSERT 152000
+#define HERD_STACK_UPDATE 152064
+#define HERD_STACK_DELETE 151936
+#define HERD_STACK_MARKS 143744
 #define HERD_STACK_WALK 448
 #define HERD_STACK_VALUES 64
-#define HERD_STACK 119296 /* the largest of them */
+#define HERD_STACK 152064 /* the largest of them */
 
 /* The version of the linked library, as HERD_VERSION is made. */
 HERD_CALL uint64_t herd_version(void);

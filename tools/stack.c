@@ -13,7 +13,7 @@
 
 #include "herdbook.h"
 
-enum { LIMIT = 131072, STACK = 1 << 20, ROUND = 64 };
+enum { LIMIT = 163840, STACK = 1 << 20, ROUND = 64 };
 
 enum { N = HERD_MOST_RECORDS, WORDS = HERD_TABLE_WORDS(HERD_MOST_RECORDS) };
 

@@ -49,6 +49,13 @@ static void relations(void)
     expect(herd_schema_check(schema, HERD_SCHEMA_WORDS) == HERD_DONE, "a schema of HERD_RELATION is not broken");
 }
 
+/* The form of before 1.0.0, with the field count first and the keys last, has nine kinds: it compiles, and the schema is broken. */
+static void old_form(void)
+{
+    static const herd_schema schema = {1, HERD_RELATION(1, HERD_PLAIN, 0, 0, 0, 0, 0, 0, 0, HERD_FIELD(1), 0)};
+    expect(herd_schema_check(schema, HERD_SCHEMA_WORDS) == HERD_SCHEMA_BROKEN, "a relation with the field count first is refused");
+}
+
 static void texts(void)
 {
     uint64_t left, right;
@@ -89,6 +96,7 @@ int main(int count, char **arguments)
     }
     versions();
     relations();
+    old_form();
     texts();
     bytes();
     return failed;

@@ -2,7 +2,7 @@
 //! header, then [`RECORD_WORDS`] for each record.
 
 /// Fields of a record, and of a relation in the schema.
-pub const FIELDS: usize = 8;
+pub const FIELDS: usize = 12;
 
 /// Relations of a schema.
 pub const MOST_RELATIONS: usize = 8;

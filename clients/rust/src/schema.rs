@@ -153,6 +153,23 @@ pub(crate) fn kinds(schema: &[u64], relation: usize) -> &[u64] {
 /// assert_eq!(FARM.abort(4).build(), Err(Error::SchemaBroken));
 /// # Ok::<(), Error>(())
 /// ```
+///
+/// A relation has up to [`FIELDS`]. Treatments with all of them, the last one the cow; the keys are
+/// the ninth field, a receipt, and drug, minute and cow together:
+///
+/// ```
+/// use herd::{Error, SchemaBuilder, FIELDS};
+///
+/// const COW: usize = 1;
+/// let cows = SchemaBuilder::new().relation().plain().key(&[1]);
+/// let treatments = (1..FIELDS).fold(cows.relation(), |schema, _| schema.plain());
+/// let treatments = treatments.propagation(COW).key(&[9]).key(&[10, 11, 12]);
+/// assert_eq!(treatments.build()?.fields(2), 12);
+///
+/// // There is no thirteenth.
+/// assert_eq!(treatments.plain().build(), Err(Error::SchemaBroken));
+/// # Ok::<(), Error>(())
+/// ```
 #[derive(Clone, Copy, Debug)]
 pub struct SchemaBuilder {
     words: [u64; SCHEMA_WORDS],

@@ -12,9 +12,9 @@ use second::vectors::{random_edit, Edit};
 /// The words of the first two relations of a schema.
 const TWO_RELATIONS: usize = block_word(3);
 
-/// Words that are wrong at most places.
+/// Words that are wrong at most places, one field more than there can be among them.
 pub const WRONG: [u64; 12] =
-    [0, 1, 2, 9, 255, 256, 257, 65_536, 1 << 40, 1 << 48, u64::MAX - 1, u64::MAX];
+    [0, 1, 2, FIELDS as u64 + 1, 255, 256, 257, 65_536, 1 << 40, 1 << 48, u64::MAX - 1, u64::MAX];
 
 pub struct Damage {
     schema: Vec<u64>,
