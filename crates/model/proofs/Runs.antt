@@ -101,7 +101,15 @@ within-found (k ∷ l) m h n (List·Memᴰ·tail d) = within-found l m (and-righ
 same-edits : (l m : List ℕ) → (within l m && within m l) ≡ true → SameEdits l m
 same-edits l m h = (within-found l m (and-left (within l m) (within m l) h), within-found m l (and-right (within l m) (within m l) h))
 
+-- Of the example run: its schema, and that tables 0 and 2 took in the same edits.
+example-schema : schemaNumber herd ≡ 0
+unfolding blank ones onesIn isLabel labelWithin deleted redone upTo joinReg joinRegs joinCell joinOpt word block relations fieldCount kindAt maskAt base capacityOf replicaAt clockAt usedAt firstAt nextAt relationAt labelAt flagAt valueAt stampAt each any from listed only some-of all-of times lowest blockRule emptyBlock broken relationOf schemaOf relationNumbered has own at insert inOrder join distinct leastAbove positionFrom recordOf decode follower encodeRecord encodeRecords encodeHeader encode contents headerRules firstsRule emptyAbove fieldRule recordRules countersRule chainFrom chainOf chainStep rises chainsRise onChain restZero wellFormed described stamped complete leads targets references equalOn conflictOn conflict live reached hop standing beaten keptAfter kept grounded settled shown joinedWith mergedRecords merged tooMany deltaOf editedBy newLabel flagOf flagOnly odd redoing spent supported valuesRule newRecord insertion recordAt registerAt withRegister leading updateRedoes updateConflict update deletionRedoes deletion schemaLength tableLength deltaLength marksLength badIndex schemaNumber tableNumber startNumber startTable valuesNumber valuesPart mergeNumber mergeTable marksOf marksNumber marksCount marksMarks marked placeKey walkNumber walkGiven walkPlace editNumber editTable editDelta insertionOf insertionNumber insertionLabel insertionTable insertionDelta updateOf updateNumber updateTable updateDelta deletionOf deletionNumber deletionTable deletionDelta entryAt walked tableWalked shownList afterCall next history begun pad blockOf herd header row sameWords sameEntries answerOf answers blanks other calls expected tookAtEnd sameRegs sameRecs within listedAtEnd agree runs crossing crosses chainSchema hops
+example-schema = refl
+
+example-same : (within (atEnd .took 0) (atEnd .took 2) && within (atEnd .took 2) (atEnd .took 0)) ≡ true
+unfolding blank ones onesIn isLabel labelWithin deleted redone upTo joinReg joinRegs joinCell joinOpt word block relations fieldCount kindAt maskAt base capacityOf replicaAt clockAt usedAt firstAt nextAt relationAt labelAt flagAt valueAt stampAt each any from listed only some-of all-of times lowest blockRule emptyBlock broken relationOf schemaOf relationNumbered has own at insert inOrder join distinct leastAbove positionFrom recordOf decode follower encodeRecord encodeRecords encodeHeader encode contents headerRules firstsRule emptyAbove fieldRule recordRules countersRule chainFrom chainOf chainStep rises chainsRise onChain restZero wellFormed described stamped complete leads targets references equalOn conflictOn conflict live reached hop standing beaten keptAfter kept grounded settled shown joinedWith mergedRecords merged tooMany deltaOf editedBy newLabel flagOf flagOnly odd redoing spent supported valuesRule newRecord insertion recordAt registerAt withRegister leading updateRedoes updateConflict update deletionRedoes deletion schemaLength tableLength deltaLength marksLength badIndex schemaNumber tableNumber startNumber startTable valuesNumber valuesPart mergeNumber mergeTable marksOf marksNumber marksCount marksMarks marked placeKey walkNumber walkGiven walkPlace editNumber editTable editDelta insertionOf insertionNumber insertionLabel insertionTable insertionDelta updateOf updateNumber updateTable updateDelta deletionOf deletionNumber deletionTable deletionDelta entryAt walked tableWalked shownList afterCall next history begun pad blockOf herd header row sameWords sameEntries answerOf answers blanks other calls expected tookAtEnd sameRegs sameRecs within listedAtEnd agree runs crossing crosses chainSchema hops
+example-same = refl
+
 -- Demand 3, applied to the example run: tables 0 and 2, which took in the same edits, have the same records and show the same list.
 pub example-agrees : RunsConverge → SameRecords (atEnd .fleet 0) (atEnd .fleet 2) × (shownList herd (atEnd .fleet 0) ≡ shownList herd (atEnd .fleet 2))
-unfolding blank ones onesIn isLabel labelWithin deleted redone upTo joinReg joinRegs joinCell joinOpt word block relations fieldCount kindAt maskAt base capacityOf replicaAt clockAt usedAt firstAt nextAt relationAt labelAt flagAt valueAt stampAt each any from listed only some-of all-of times lowest blockRule emptyBlock broken relationOf schemaOf relationNumbered has own at insert inOrder join distinct leastAbove positionFrom recordOf decode follower encodeRecord encodeRecords encodeHeader encode contents headerRules firstsRule emptyAbove fieldRule recordRules countersRule chainFrom chainOf chainStep rises chainsRise onChain restZero wellFormed described stamped complete leads targets references equalOn conflictOn conflict live reached hop standing beaten keptAfter kept grounded settled shown joinedWith mergedRecords merged tooMany deltaOf editedBy newLabel flagOf flagOnly odd redoing spent supported valuesRule newRecord insertion recordAt registerAt withRegister leading updateRedoes updateConflict update deletionRedoes deletion schemaLength tableLength deltaLength marksLength badIndex schemaNumber tableNumber startNumber startTable valuesNumber valuesPart mergeNumber mergeTable marksOf marksNumber marksCount marksMarks marked placeKey walkNumber walkGiven walkPlace editNumber editTable editDelta insertionOf insertionNumber insertionLabel insertionTable insertionDelta updateOf updateNumber updateTable updateDelta deletionOf deletionNumber deletionTable deletionDelta entryAt walked tableWalked shownList afterCall next history begun pad blockOf herd header row sameWords sameEntries answerOf answers blanks other calls expected tookAtEnd sameRegs sameRecs within listedAtEnd agree runs crossing crosses chainSchema hops
-example-agrees claim = claim herd refl blanks replicas example-starts calls example-run .agree 0 2 (same-edits _ _ refl)
+example-agrees claim = claim herd example-schema blanks replicas example-starts calls example-run .agree 0 2 (same-edits (atEnd .took 0) (atEnd .took 2) example-same)
