@@ -219,9 +219,10 @@ typedef uint64_t herd_delta[HERD_DELTA_WORDS];
 
 /*
  * The stack that each call needs at most, in bytes, without what interrupts, signals and lazy dynamic linking take. Measured by
- * tools/stack on tables of 4,096 records; the calls do not recurse, and their arrays have fixed sizes, so that a small table needs as
- * much. Of an edit and of the marks 96 KiB are the resolved references, two bytes for each field of each record, and 32 KiB the keys of
- * the records; up to version 3.1.0, with eight fields, the references took 64 KiB.
+ * tools/stack on tables of 4,096 records, which fails if a call passes 160 KiB; the calls do not recurse, and their arrays have fixed
+ * sizes, so that a small table needs as much. Of an edit and of the marks 96 KiB are the resolved references, two bytes for each field of
+ * each record, and 32 KiB the keys of the records; up to version 3.1.0, with eight fields, the references took 64 KiB, and the limit was
+ * 128 KiB.
  */
 #define HERD_STACK_VERSION 64
 #define HERD_STACK_SCHEMA_CHECK 192
