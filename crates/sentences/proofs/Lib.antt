@@ -10,3 +10,5 @@ pub mod Twelve
 pub mod Old
 pub mod Book
 pub mod BookRuns
+pub mod Unfolded
+pub mod Strikes

@@ -1,0 +1,22 @@
+-- The definitions compute the strikes in the herd book, each decided by one field.
+-- Assumes nothing.
+use mathlib.Core.Path.{_≡_, refl}
+use mathlib.Core.Bool.{true}
+use Rattle.sentences.specs.Strikes.{robotOfMilking, cowOfMilking, robotOfCleaning, cowOfTreatment}
+use Rattle.sentences.proofs.Unfolded.{strikes}
+
+pub robot-of-milking-holds : robotOfMilking ≡ true
+unfolding strikes robotOfMilking
+robot-of-milking-holds = refl
+
+pub cow-of-milking-holds : cowOfMilking ≡ true
+unfolding strikes cowOfMilking
+cow-of-milking-holds = refl
+
+pub robot-of-cleaning-holds : robotOfCleaning ≡ true
+unfolding strikes robotOfCleaning
+robot-of-cleaning-holds = refl
+
+pub cow-of-treatment-holds : cowOfTreatment ≡ true
+unfolding strikes cowOfTreatment
+cow-of-treatment-holds = refl
