@@ -12,3 +12,4 @@ pub mod Book
 pub mod BookRuns
 pub mod Unfolded
 pub mod Strikes
+pub mod Standing

@@ -1,3 +1,4 @@
 pub mod Examples
 pub mod Twelve
 pub mod Strikes
+pub mod Standing

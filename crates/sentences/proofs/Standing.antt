@@ -1,0 +1,15 @@
+-- The definitions compute answers 9 and 10 for a loser that stands.
+-- Assumes nothing.
+use mathlib.Core.Path.{_≡_, refl}
+use mathlib.Core.Bool.{true}
+use Rattle.model.specs.Book.{bookBlock, book}
+use Rattle.sentences.specs.Standing.{nineOverStanding, tenOverStanding}
+use Rattle.sentences.proofs.Unfolded.{edits}
+
+pub nine-over-standing-holds : nineOverStanding ≡ true
+unfolding edits bookBlock book nineOverStanding
+nine-over-standing-holds = refl
+
+pub ten-over-standing-holds : tenOverStanding ≡ true
+unfolding edits bookBlock book tenOverStanding
+ten-over-standing-holds = refl
