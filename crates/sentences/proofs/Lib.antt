@@ -13,3 +13,4 @@ pub mod BookRuns
 pub mod Unfolded
 pub mod Strikes
 pub mod Standing
+pub mod Spoiled

@@ -2,3 +2,4 @@ pub mod Examples
 pub mod Twelve
 pub mod Strikes
 pub mod Standing
+pub mod Spoiled

@@ -1,0 +1,18 @@
+-- The definitions compute the refusals of spoiled header words.
+-- Assumes nothing.
+use mathlib.Core.Path.{_≡_, refl}
+use mathlib.Core.Bool.{true}
+use Rattle.sentences.specs.Spoiled.{headerSpoiled, firstsSpoiled, chainsAbove}
+use Rattle.sentences.proofs.Unfolded.{lookups}
+
+pub header-spoiled-holds : headerSpoiled ≡ true
+unfolding lookups headerSpoiled
+header-spoiled-holds = refl
+
+pub firsts-spoiled-holds : firstsSpoiled ≡ true
+unfolding lookups firstsSpoiled
+firsts-spoiled-holds = refl
+
+pub chains-above-holds : chainsAbove ≡ true
+unfolding lookups chainsAbove
+chains-above-holds = refl
