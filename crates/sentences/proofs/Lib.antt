@@ -14,3 +14,4 @@ pub mod Unfolded
 pub mod Strikes
 pub mod Standing
 pub mod Spoiled
+pub mod Keys

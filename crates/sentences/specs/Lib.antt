@@ -3,3 +3,4 @@ pub mod Twelve
 pub mod Strikes
 pub mod Standing
 pub mod Spoiled
+pub mod Keys

@@ -1,0 +1,10 @@
+-- The definitions compute the examples of how many fields a key may name.
+-- Assumes nothing.
+use mathlib.Core.Path.{_≡_, refl}
+use mathlib.Core.Bool.{true}
+use Rattle.sentences.specs.Keys.{keyFields}
+use Rattle.sentences.proofs.Unfolded.{schemas}
+
+pub key-fields-hold : keyFields ≡ true
+unfolding schemas keyFields
+key-fields-hold = refl
