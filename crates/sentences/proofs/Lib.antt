@@ -15,3 +15,4 @@ pub mod Strikes
 pub mod Standing
 pub mod Spoiled
 pub mod Keys
+pub mod Capacities

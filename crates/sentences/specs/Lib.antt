@@ -4,3 +4,4 @@ pub mod Strikes
 pub mod Standing
 pub mod Spoiled
 pub mod Keys
+pub mod Capacities
