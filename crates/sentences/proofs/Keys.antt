@@ -3,8 +3,8 @@
 use mathlib.Core.Path.{_≡_, refl}
 use mathlib.Core.Bool.{true}
 use Rattle.sentences.specs.Keys.{keyFields}
-use Rattle.sentences.proofs.Unfolded.{schemas}
+use Rattle.sentences.proofs.Unfolded.{schema-parts}
 
 pub key-fields-hold : keyFields ≡ true
-unfolding schemas keyFields
+unfolding schema-parts keyFields
 key-fields-hold = refl

@@ -3,16 +3,16 @@
 use mathlib.Core.Path.{_≡_, refl}
 use mathlib.Core.Bool.{true}
 use Rattle.sentences.specs.Spoiled.{headerSpoiled, firstsSpoiled, chainsAbove}
-use Rattle.sentences.proofs.Unfolded.{lookups}
+use Rattle.sentences.proofs.Unfolded.{lookup-parts}
 
 pub header-spoiled-holds : headerSpoiled ≡ true
-unfolding lookups headerSpoiled
+unfolding lookup-parts headerSpoiled
 header-spoiled-holds = refl
 
 pub firsts-spoiled-holds : firstsSpoiled ≡ true
-unfolding lookups firstsSpoiled
+unfolding lookup-parts firstsSpoiled
 firsts-spoiled-holds = refl
 
 pub chains-above-holds : chainsAbove ≡ true
-unfolding lookups chainsAbove
+unfolding lookup-parts chainsAbove
 chains-above-holds = refl

@@ -4,12 +4,12 @@ use mathlib.Core.Path.{_≡_, refl}
 use mathlib.Core.Bool.{true}
 use Rattle.model.specs.Book.{bookBlock, book}
 use Rattle.sentences.specs.Standing.{nineOverStanding, tenOverStanding}
-use Rattle.sentences.proofs.Unfolded.{edits}
+use Rattle.sentences.proofs.Unfolded.{edit-parts}
 
 pub nine-over-standing-holds : nineOverStanding ≡ true
-unfolding edits bookBlock book nineOverStanding
+unfolding edit-parts bookBlock book nineOverStanding
 nine-over-standing-holds = refl
 
 pub ten-over-standing-holds : tenOverStanding ≡ true
-unfolding edits bookBlock book tenOverStanding
+unfolding edit-parts bookBlock book tenOverStanding
 ten-over-standing-holds = refl

@@ -3,20 +3,20 @@
 use mathlib.Core.Path.{_≡_, refl}
 use mathlib.Core.Bool.{true}
 use Rattle.sentences.specs.Strikes.{robotOfMilking, cowOfMilking, robotOfCleaning, cowOfTreatment}
-use Rattle.sentences.proofs.Unfolded.{strikes}
+use Rattle.sentences.proofs.Unfolded.{strike-parts}
 
 pub robot-of-milking-holds : robotOfMilking ≡ true
-unfolding strikes robotOfMilking
+unfolding strike-parts robotOfMilking
 robot-of-milking-holds = refl
 
 pub cow-of-milking-holds : cowOfMilking ≡ true
-unfolding strikes cowOfMilking
+unfolding strike-parts cowOfMilking
 cow-of-milking-holds = refl
 
 pub robot-of-cleaning-holds : robotOfCleaning ≡ true
-unfolding strikes robotOfCleaning
+unfolding strike-parts robotOfCleaning
 robot-of-cleaning-holds = refl
 
 pub cow-of-treatment-holds : cowOfTreatment ≡ true
-unfolding strikes cowOfTreatment
+unfolding strike-parts cowOfTreatment
 cow-of-treatment-holds = refl

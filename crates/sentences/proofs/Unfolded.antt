@@ -25,53 +25,53 @@ use Rattle.model.specs.Cases.{pad, header, row, sameWords}
 use Rattle.model.specs.Book.{bookBlock, book, ofKind, strikeOf, strikeNumber, strikeTable}
 
 -- Schema check.
-unfoldable pub schemas : Unit {0}
+unfoldable pub schema-parts : Unit {0}
 unfolding word block relations fieldCount kindAt maskAt each all-of lowest ones onesIn blockRule emptyBlock broken schemaLength schemaNumber
-schemas = tt
+schema-parts = tt
 
 -- A table's words, its rules and table check.
-unfoldable pub words : Unit {0}
+unfoldable pub word-parts : Unit {0}
 unfolding base capacityOf replicaAt clockAt usedAt firstAt nextAt relationAt labelAt flagAt valueAt stampAt pad header row sameWords
-words = tt
+word-parts = tt
 
-unfoldable pub rules : Unit {0}
+unfoldable pub rule-parts : Unit {0}
 unfolding any some-of isLabel headerRules firstsRule emptyAbove fieldRule recordRules countersRule chainFrom chainOf chainStep rises chainsRise onChain restZero wellFormed
-rules = tt
+rule-parts = tt
 
-unfoldable pub tables : Unit {0}
-unfolding schemas words rules tableLength tableNumber
-tables = tt
+unfoldable pub table-parts : Unit {0}
+unfolding schema-parts word-parts rule-parts tableLength tableNumber
+table-parts = tt
 
-unfoldable pub lookups : Unit {0}
-unfolding tables readRule seekFrom lookupSeek lookupNumber
-lookups = tt
+unfoldable pub lookup-parts : Unit {0}
+unfolding table-parts readRule seekFrom lookupSeek lookupNumber
+lookup-parts = tt
 
 -- Records, the four steps, and the list.
-unfoldable pub records : Unit {0}
+unfoldable pub record-parts : Unit {0}
 unfolding from listed only times relationOf schemaOf relationNumbered has own at insert inOrder leastAbove positionFrom recordOf decode joinOpt recordAt
-records = tt
+record-parts = tt
 
-unfoldable pub steps : Unit {0}
+unfoldable pub step-parts : Unit {0}
 unfolding described stamped complete leads targets references equalOn conflictOn conflict live reached hop standing beaten keptAfter kept grounded settled shown
-steps = tt
+step-parts = tt
 
-unfoldable pub lists : Unit {0}
-unfolding tables records steps marksLength marksOf marksNumber marksMarks marked placeKey walkNumber walkGiven entryAt walked tableWalked shownList
-lists = tt
+unfoldable pub list-parts : Unit {0}
+unfolding table-parts record-parts step-parts marksLength marksOf marksNumber marksMarks marked placeKey walkNumber walkGiven entryAt walked tableWalked shownList
+list-parts = tt
 
 -- Updates and deletions, and strikes in the herd book.
-unfoldable pub merges : Unit {0}
+unfoldable pub merge-parts : Unit {0}
 unfolding follower encodeRecord encodeRecords encodeHeader encode upTo joinReg joinRegs joinCell joinedWith mergedRecords merged
-merges = tt
+merge-parts = tt
 
-unfoldable pub changes : Unit {0}
+unfoldable pub change-parts : Unit {0}
 unfolding deltaOf editedBy newLabel labelWithin deleted redone flagOf flagOnly odd redoing spent supported registerAt withRegister leading
-changes = tt
+change-parts = tt
 
-unfoldable pub edits : Unit {0}
-unfolding lists merges changes updateRedoes updateConflict update deletionRedoes deletion deltaLength badIndex editNumber editTable updateOf updateNumber deletionOf deletionNumber
-edits = tt
+unfoldable pub edit-parts : Unit {0}
+unfolding list-parts merge-parts change-parts updateRedoes updateConflict update deletionRedoes deletion deltaLength badIndex editNumber editTable updateOf updateNumber deletionOf deletionNumber
+edit-parts = tt
 
-unfoldable pub strikes : Unit {0}
-unfolding edits bookBlock book ofKind strikeOf strikeNumber strikeTable
-strikes = tt
+unfoldable pub strike-parts : Unit {0}
+unfolding edit-parts bookBlock book ofKind strikeOf strikeNumber strikeTable
+strike-parts = tt

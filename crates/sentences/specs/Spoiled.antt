@@ -21,41 +21,41 @@ unfolding blocks
 schema R = R ∷ (blocks R ++ replicate (16 * (8 - R)) 0)
 
 -- A table of N = 2 with one record, 1.1 of relation 1.
-abbrev only : ℕ
-only = labelOf 1 1
+abbrev cow : ℕ
+cow = labelOf 1 1
 
-good : List ℕ
+unspoiled : List ℕ
 unfolding header row
-good = header 1 1 (1 ∷ []) ++ (row 0 1 only 0 (12 ∷ []) (only ∷ []) ++ replicate 28 0)
+unspoiled = header 1 1 (1 ∷ []) ++ (row 0 1 cow 0 (12 ∷ []) (cow ∷ []) ++ replicate 28 0)
 
 -- What a lookup answers: of the record, and in the empty chain of relation 2.
-answers : ℕ → List ℕ → ℕ → Bool
+gives : ℕ → List ℕ → ℕ → Bool
 unfolding schema
-answers R t n = eqb (lookupNumber (schema R) t 1 only) n && eqb (lookupNumber (schema R) t 2 only) n
+gives R t n = eqb (lookupNumber (schema R) t 1 cow) n && eqb (lookupNumber (schema R) t 2 cow) n
 
 -- With another number in word k a lookup and table check answer 3. A lookup reads no record of the chain that begins at word k: relation 2 is asked
 -- where that is the chain of relation 1.
 refused : ℕ → ℕ → ℕ → Bool
-unfolding schema good
+unfolding schema unspoiled
 refused R k x =
-    let t = set good k x in
-    eqb (lookupNumber (schema R) t (cond (eqb k 4) 2 1) only) 3 && eqb (tableNumber (schema R) t) 3
+    let t = set unspoiled k x in
+    eqb (lookupNumber (schema R) t (cond (eqb k 4) 2 1) cow) 3 && eqb (tableNumber (schema R) t) 3
 
 -- "3 exactly if a header word breaks its rule": "0 replica (1 to 255), 1 clock (0 to 2^40 − 1), 2 used count, 3 zero, .. 12 to 15 zero".
 unfoldable pub headerSpoiled : Bool
-unfolding good answers refused
+unfolding unspoiled gives refused
 headerSpoiled =
-    eqb (tableNumber (schema 8) good) 0 && answers 8 good 0
+    eqb (tableNumber (schema 8) unspoiled) 0 && gives 8 unspoiled 0
     && refused 8 0 0 && refused 8 0 256 && refused 8 1 (2 ^ 40) && refused 8 2 3 && refused 8 3 1
     && all-of (λ k. refused 8 k 1) (12 ∷ 13 ∷ 14 ∷ 15 ∷ [])
 
 -- "a first index passes used": "4 to 11 the first record of relations 1 to 8", of a schema that has them all.
 unfoldable pub firstsSpoiled : Bool
-unfolding good answers refused
-firstsSpoiled = answers 8 good 0 && all-of (λ k. refused 8 k 2) (4 ∷ 5 ∷ 6 ∷ 7 ∷ 8 ∷ 9 ∷ 10 ∷ 11 ∷ [])
+unfolding unspoiled gives refused
+firstsSpoiled = gives 8 unspoiled 0 && all-of (λ k. refused 8 k 2) (4 ∷ 5 ∷ 6 ∷ 7 ∷ 8 ∷ 9 ∷ 10 ∷ 11 ∷ [])
 
 -- "a chain above R isn't empty": of a schema of one relation.
 unfoldable pub chainsAbove : Bool
-unfolding good answers refused
+unfolding unspoiled refused
 chainsAbove =
-    eqb (lookupNumber (schema 1) good 1 only) 0 && all-of (λ k. refused 1 k 1) (5 ∷ 6 ∷ 7 ∷ 8 ∷ 9 ∷ 10 ∷ 11 ∷ [])
+    eqb (lookupNumber (schema 1) unspoiled 1 cow) 0 && all-of (λ k. refused 1 k 1) (5 ∷ 6 ∷ 7 ∷ 8 ∷ 9 ∷ 10 ∷ 11 ∷ [])

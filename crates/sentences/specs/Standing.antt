@@ -22,20 +22,20 @@ winner = labelOf 2 1
 abbrev loser : ℕ
 loser = labelOf 2 2
 
-abbrev third : ℕ
-third = labelOf 2 3
+abbrev youngest : ℕ
+youngest = labelOf 2 3
 
 -- A cow with ear tag, transponder and group.
 cow : ℕ → ℕ → List ℕ → List ℕ
 unfolding row
 cow next l values = row next cows l 0 values (replicate 3 l)
 
--- The winner has ear tag 40 and transponder 7, the third cow 41 and 9; the loser's values are told.
+-- The winner has ear tag 40 and transponder 7, the youngest cow 41 and 9; the loser's values are told.
 barn : List ℕ → List ℕ
 unfolding header row cow
 barn values =
     header 2 4 (1 ∷ 2 ∷ [])
-    ++ (row 0 groups group 0 (12 ∷ []) (group ∷ []) ++ (cow 3 winner (40 ∷ 7 ∷ 0 ∷ []) ++ (cow 4 loser values ++ cow 0 third (41 ∷ 9 ∷ 0 ∷ []))))
+    ++ (row 0 groups group 0 (12 ∷ []) (group ∷ []) ++ (cow 3 winner (40 ∷ 7 ∷ 0 ∷ []) ++ (cow 4 loser values ++ cow 0 youngest (41 ∷ 9 ∷ 0 ∷ []))))
 
 buffer : List ℕ
 buffer = replicate deltaWords 0
@@ -50,11 +50,11 @@ unfoldable pub nineOverStanding : Bool
 unfolding barn buffer shows
 nineOverStanding =
     let t = barn (40 ∷ 8 ∷ 0 ∷ []) in
-    shows t (group ∷ winner ∷ third ∷ []) && eqb (updateNumber book t buffer 4 2 8) 9 && eqb (updateNumber book t buffer 4 2 10) 0
+    shows t (group ∷ winner ∷ youngest ∷ []) && eqb (updateNumber book t buffer 4 2 8) 9 && eqb (updateNumber book t buffer 4 2 10) 0
 
 -- "deletion: another standing record references it by abort": the group is the loser's alone.
 unfoldable pub tenOverStanding : Bool
 unfolding barn buffer shows
 tenOverStanding =
     let t = barn (40 ∷ 8 ∷ group ∷ []) in
-    shows t (group ∷ winner ∷ third ∷ []) && eqb (deletionNumber book t buffer 1) 10 && eqb (deletionNumber book (barn (40 ∷ 8 ∷ 0 ∷ [])) buffer 1) 0
+    shows t (group ∷ winner ∷ youngest ∷ []) && eqb (deletionNumber book t buffer 1) 10 && eqb (deletionNumber book (barn (40 ∷ 8 ∷ 0 ∷ [])) buffer 1) 0
