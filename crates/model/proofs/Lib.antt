@@ -8,3 +8,4 @@ pub mod Losers
 pub mod Lookups
 pub mod Figures
 pub mod Book
+pub mod BookRuns

@@ -30,7 +30,7 @@ use Rattle.model.specs.Examples.{blank, answerOf, answers, first, replic
 use Rattle.model.specs.Compare.{sameRegs, sameRecs}
 
 -- A refused call may be lent any schema and any words.
-refused : {A : Type 0} (n : ℕ) → eqb n 0 ≡ false → n ≡ 0 → A
+pub refused : {A : Type 0} (n : ℕ) → eqb n 0 ≡ false → n ≡ 0 → A
 refused n e z = clash (eq-eqb n 0 z) e
 
 pub example-run : Run herd first calls
@@ -98,7 +98,7 @@ unfolding within all-of
 within-found (k ∷ l) m h n (List·Memᴰ·head e) = let g : some-of (λ j. eqb n j) m ≡ true = rw e (and-left (some-of (λ j. eqb k j) m) (within l m) h) in found n m g
 within-found (k ∷ l) m h n (List·Memᴰ·tail d) = within-found l m (and-right (some-of (λ j. eqb k j) m) (within l m) h) n d
 
-same-edits : (l m : List ℕ) → (within l m && within m l) ≡ true → SameEdits l m
+pub same-edits : (l m : List ℕ) → (within l m && within m l) ≡ true → SameEdits l m
 same-edits l m h = (within-found l m (and-left (within l m) (within m l) h), within-found m l (and-right (within l m) (within m l) h))
 
 -- Of the example run: its schema, and that tables 0 and 2 took in the same edits.

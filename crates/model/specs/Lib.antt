@@ -24,3 +24,4 @@ pub mod Figures
 pub mod Book
 pub mod Barn
 pub mod BookRuns
+pub mod BookExample

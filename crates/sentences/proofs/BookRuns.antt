@@ -16,12 +16,15 @@ use Rattle.model.specs.Lists.{check, lowest}
 use Rattle.model.specs.Schemas.{broken}
 use Rattle.model.specs.WellFormed.{wellFormed}
 use Rattle.model.specs.Edits.{Edit}
-use Rattle.model.specs.Calls.{done, schemaLength, tableLength, deltaLength, badIndex, startNumber, editNumber, editTable, updateOf, updateNumber, updateTable, updateDelta, deletionOf, deletionNumber, deletionTable, deletionDelta}
+use Rattle.model.specs.Calls.{done, schemaLength, tableLength, deltaLength, badIndex, startNumber, editNumber, editTable, updateOf, updateNumber, updateTable, updateDelta, deletionOf, deletionNumber, deletionTable, deletionDelta, shownList}
 use Rattle.model.specs.Runs.{words, Call, start, merge, insertion, update, deletion, Moment, afterCall, ago, next, history, Allowed, Run, begun}
-use Rattle.model.specs.Demand.{Converged}
+use Rattle.model.specs.Demand.{SameRecords, Converged}
 use Rattle.model.specs.Book.{book, ofKind, changeOf, changeNumber, changeTable, changeDelta, strikeOf, strikeNumber, strikeTable, strikeDelta}
 use Rattle.model.specs.BookRuns.{BookCall, begin, takeIn, enter, change, strike, bookNext, bookHistory, AllowedCall, BookRun}
+use Rattle.model.specs.Examples.{replicas}
+use Rattle.model.specs.BookExample.{bookBlanks, bookCalls, bookEnd}
 use Rattle.model.proofs.Book.{book-number}
+use Rattle.model.proofs.BookRuns.{book-example-run, book-example-starts, book-example-same}
 use Rattle.laws.proofs.OfKind.{other-refused}
 use Rattle.convergence.proofs.Demand.{demand3}
 use Rattle.sentences.proofs.Book.{change-library, strike-library}
@@ -151,3 +154,7 @@ pub book-converges : (w : ℕ → List ℕ) (r : ℕ → ℕ) → ((i : ℕ) →
     → Converged book (ago (begun w r) (bookHistory (begun w r) cs) 0)
 book-converges w r s cs h =
     subst (λ (x : List Moment). Converged book (ago (begun w r) x 0)) (sym (same-history (begun w r) cs)) (demand3 .runs book book-number w r s (asCalls (begun w r) cs) (as-run (begun w r) cs h))
+
+-- Applied to the example run: its two tables, which took in the same edits, have the same records and show the same list.
+pub book-example-agrees : SameRecords (bookEnd .fleet 0) (bookEnd .fleet 1) × (shownList book (bookEnd .fleet 0) ≡ shownList book (bookEnd .fleet 1))
+book-example-agrees = book-converges bookBlanks replicas book-example-starts bookCalls book-example-run .agree 0 1 book-example-same
