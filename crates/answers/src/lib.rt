@@ -11,6 +11,7 @@ pub enum SchemaAnswer {
 }
 
 impl SchemaAnswer {
+    // The answer's number in document 01.
     pub fn number(self) -> u64
         ensures { λ r. ⌜ r ≡ schemaTold self .number ⌝ }
     {
@@ -31,6 +32,7 @@ pub enum TableAnswer {
 }
 
 impl TableAnswer {
+    // The answer's number in document 01.
     pub fn number(self) -> u64
         ensures { λ r. ⌜ r ≡ tableTold self .number ⌝ }
     {
@@ -51,6 +53,7 @@ pub enum StartAnswer {
 }
 
 impl StartAnswer {
+    // The answer's number in document 01.
     pub fn number(self) -> u64
         ensures { λ r. ⌜ r ≡ startTold self .number ⌝ }
     {
@@ -73,6 +76,7 @@ pub enum MergeAnswer {
 }
 
 impl MergeAnswer {
+    // The answer's number in document 01.
     pub fn number(self) -> u64
         ensures { λ r. ⌜ r ≡ mergeTold self .number ⌝ }
     {
@@ -110,6 +114,7 @@ pub enum MarksAnswer {
 }
 
 impl MarksAnswer {
+    // The answer's number in document 01.
     pub fn number(self) -> u64
         ensures { λ r. ⌜ r ≡ marksTold self .number ⌝ }
     {
@@ -144,6 +149,7 @@ pub enum WalkAnswer {
 }
 
 impl WalkAnswer {
+    // The answer's number in document 01.
     pub fn number(self) -> u64
         ensures { λ r. ⌜ r ≡ walkTold self .number ⌝ }
     {
@@ -186,6 +192,7 @@ pub enum InsertionAnswer {
 }
 
 impl InsertionAnswer {
+    // The answer's number in document 01.
     pub fn number(self) -> u64
         ensures { λ r. ⌜ r ≡ insertionTold self .number ⌝ }
     {
@@ -239,6 +246,7 @@ pub enum UpdateAnswer {
 }
 
 impl UpdateAnswer {
+    // The answer's number in document 01.
     pub fn number(self) -> u64
         ensures { λ r. ⌜ r ≡ updateTold self .number ⌝ }
     {
@@ -269,6 +277,7 @@ pub enum DeletionAnswer {
 }
 
 impl DeletionAnswer {
+    // The answer's number in document 01.
     pub fn number(self) -> u64
         ensures { λ r. ⌜ r ≡ deletionTold self .number ⌝ }
     {
@@ -292,6 +301,7 @@ pub enum FindAnswer {
 }
 
 impl FindAnswer {
+    // The answer's number in document 01.
     pub fn number(self) -> u64
         ensures { λ r. ⌜ r ≡ findTold self .number ⌝ }
     {
@@ -327,6 +337,7 @@ pub enum CompareAnswer {
 }
 
 impl CompareAnswer {
+    // The answer's number in document 01.
     pub fn number(self) -> u64
         ensures { λ r. ⌜ r ≡ compareTold self .number ⌝ }
     {
@@ -370,6 +381,7 @@ pub enum LookupAnswer {
 }
 
 impl LookupAnswer {
+    // The answer's number in document 01.
     pub fn number(self) -> u64
         ensures { λ r. ⌜ r ≡ lookupTold self .number ⌝ }
     {

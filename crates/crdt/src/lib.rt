@@ -30,12 +30,14 @@ impl Label {
         Label::NONE
     }
 
+    // The counter of a label.
     pub fn counter(self) -> u64
         ensures { λ r. ⌜ r ≡ counterOf (self .0) ⌝ }
     {
         self.0 / (Label::LARGEST_REPLICA + 1)
     }
 
+    // The replica number of a label.
     pub fn replica(self) -> u64
         ensures { λ r. ⌜ r ≡ replicaOf (self .0) ⌝ }
     {
