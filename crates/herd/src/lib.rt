@@ -180,7 +180,7 @@ pub extern "C" fn herd_walk(
     ensures index { λ _. ⌜ now (given .exit) ≡ walkGiven (now (schema .entry)) (now (table .entry)) (now (marks .entry)) (now (place .entry)) ⌝ }
     ensures moved { λ _. ⌜ now (place .exit) ≡ walkPlace (now (schema .entry)) (now (table .entry)) (now (marks .entry)) (now (place .entry)) ⌝ }
 {
-    let m = list_walk::advance(schema, table, marks, *place as usize);
+    let m = list_walk::next_from(schema, table, marks, *place as usize);
     let answer = m.answer;
     *place = m.index as u64;
     *given = answer.index() as u64;

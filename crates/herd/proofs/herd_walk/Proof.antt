@@ -5,8 +5,8 @@ use borrow.Author.Needs.{needs}
 use Rattle.herd.proofs.herd_walk.Statement.{statement}
 use Rattle.herd.proofs.herd_walk.Tie as tie
 
-advance-requires : tie.Need-advance-requires
-advance-requires c κs = search needs
+next-from-requires : tie.Need-next-from-requires
+next-from-requires c κs = search needs
 
 index-requires : tie.Need-index-requires
 index-requires c κs = search needs
@@ -15,7 +15,7 @@ number-requires : tie.Need-number-requires
 number-requires c κs = search needs
 
 returns : tie.Need-returns
-returns c = (told-number (c .before .before .advance .ensures .0) (c .number .ensures), (told-value (c .before .before .advance .ensures .0) (c .before .index .ensures), c .before .before .advance .ensures .1))
+returns c = (told-number (c .before .before .next-from .ensures .0) (c .number .ensures), (told-value (c .before .before .next-from .ensures .0) (c .before .index .ensures), c .before .before .next-from .ensures .1))
 
 pub herd-walk-spec : {M : Type 1} → statement M
-herd-walk-spec = tie.close (tie.spec advance-requires index-requires number-requires returns)
+herd-walk-spec = tie.close (tie.spec next-from-requires index-requires number-requires returns)
