@@ -18,7 +18,7 @@ use Rattle.model.specs.Edits.{deltaOf, editedBy, newLabel, flagOf, flagO
 use Rattle.model.specs.Calls.{schemaLength, tableLength, deltaLength, marksLength, badIndex, schemaNumber, marksOf, marksNumber, marksCount, marksMarks, editNumber, editTable, insertionOf, insertionNumber, insertionLabel, updateOf, deletionOf}
 use Rattle.model.specs.Cases.{pad, header, row, sameWords}
 use Rattle.model.specs.Book.{book, bookBlock, ofKind, changeOf, changeNumber, changeTable, strikeOf, strikeNumber, strikeTable, findNumber, isShown, findIndex}
-use Rattle.model.specs.Barn.{entered, ofItsKind, foundMilkings, pastTheLabels, keysOfCows}
+use Rattle.model.specs.Barn.{pastTheLabels, keysOfCows}
 
 pub book-good : broken book ≡ false
 unfolding each word block relations fieldCount kindAt maskAt blockRule emptyBlock broken bookBlock book ones
@@ -31,18 +31,6 @@ book-long = refl
 pub book-number : schemaNumber book ≡ 0
 unfolding each word block relations fieldCount kindAt maskAt lowest blockRule emptyBlock broken schemaLength schemaNumber bookBlock book ones
 book-number = refl
-
-pub entered-holds : entered ≡ true
-unfolding ones onesIn isLabel deleted redone upTo joinReg joinRegs joinCell joinOpt word block relations fieldCount kindAt maskAt base capacityOf replicaAt clockAt usedAt firstAt nextAt relationAt labelAt flagAt valueAt stampAt each any from listed only some-of all-of times lowest blockRule emptyBlock broken relationOf schemaOf relationNumbered has own at insert inOrder distinct leastAbove positionFrom recordOf decode follower encodeRecord encodeRecords encodeHeader encode headerRules firstsRule emptyAbove fieldRule recordRules countersRule chainFrom chainOf chainStep rises chainsRise onChain restZero wellFormed described stamped complete leads targets references equalOn conflictOn conflict live reached hop standing beaten keptAfter kept grounded settled shown joinedWith mergedRecords merged deltaOf editedBy newLabel flagOf flagOnly odd redoing spent supported valuesRule newRecord insertion recordAt registerAt withRegister leading updateRedoes updateConflict update deletionRedoes deletion schemaLength tableLength deltaLength marksLength badIndex schemaNumber marksOf marksNumber marksCount marksMarks editNumber editTable insertionOf insertionNumber insertionLabel updateOf deletionOf pad header row sameWords book bookBlock ofKind changeOf changeNumber changeTable strikeOf strikeNumber strikeTable findNumber isShown findIndex entered labelWithin
-entered-holds = refl
-
-pub of-its-kind-holds : ofItsKind ≡ true
-unfolding ones onesIn isLabel deleted redone upTo joinReg joinRegs joinCell joinOpt word block relations fieldCount kindAt maskAt base capacityOf replicaAt clockAt usedAt firstAt nextAt relationAt labelAt flagAt valueAt stampAt each any from listed only some-of all-of times lowest blockRule emptyBlock broken relationOf schemaOf relationNumbered has own at insert inOrder distinct leastAbove positionFrom recordOf decode follower encodeRecord encodeRecords encodeHeader encode headerRules firstsRule emptyAbove fieldRule recordRules countersRule chainFrom chainOf chainStep rises chainsRise onChain restZero wellFormed described stamped complete leads targets references equalOn conflictOn conflict live reached hop standing beaten keptAfter kept grounded settled shown joinedWith mergedRecords merged deltaOf editedBy newLabel flagOf flagOnly odd redoing spent supported valuesRule newRecord insertion recordAt registerAt withRegister leading updateRedoes updateConflict update deletionRedoes deletion schemaLength tableLength deltaLength marksLength badIndex schemaNumber marksOf marksNumber marksCount marksMarks editNumber editTable insertionOf insertionNumber insertionLabel updateOf deletionOf pad header row sameWords book bookBlock ofKind changeOf changeNumber changeTable strikeOf strikeNumber strikeTable findNumber isShown findIndex ofItsKind labelWithin
-of-its-kind-holds = refl
-
-pub found-milkings-hold : foundMilkings ≡ true
-unfolding ones onesIn isLabel deleted redone upTo joinReg joinRegs joinCell joinOpt word block relations fieldCount kindAt maskAt base capacityOf replicaAt clockAt usedAt firstAt nextAt relationAt labelAt flagAt valueAt stampAt each any from listed only some-of all-of times lowest blockRule emptyBlock broken relationOf schemaOf relationNumbered has own at insert inOrder distinct leastAbove positionFrom recordOf decode follower encodeRecord encodeRecords encodeHeader encode headerRules firstsRule emptyAbove fieldRule recordRules countersRule chainFrom chainOf chainStep rises chainsRise onChain restZero wellFormed described stamped complete leads targets references equalOn conflictOn conflict live reached hop standing beaten keptAfter kept grounded settled shown joinedWith mergedRecords merged deltaOf editedBy newLabel flagOf flagOnly odd redoing spent supported valuesRule newRecord insertion recordAt registerAt withRegister leading updateRedoes updateConflict update deletionRedoes deletion schemaLength tableLength deltaLength marksLength badIndex schemaNumber marksOf marksNumber marksCount marksMarks editNumber editTable insertionOf insertionNumber insertionLabel updateOf deletionOf pad header row sameWords book bookBlock ofKind changeOf changeNumber changeTable strikeOf strikeNumber strikeTable findNumber isShown findIndex foundMilkings
-found-milkings-hold = refl
 
 pub past-the-labels-holds : pastTheLabels ≡ true
 unfolding ones onesIn isLabel deleted redone upTo joinReg joinRegs joinCell joinOpt word block relations fieldCount kindAt maskAt base capacityOf replicaAt clockAt usedAt firstAt nextAt relationAt labelAt flagAt valueAt stampAt each any from listed only some-of all-of times lowest blockRule emptyBlock broken relationOf schemaOf relationNumbered has own at insert inOrder distinct leastAbove positionFrom recordOf decode follower encodeRecord encodeRecords encodeHeader encode headerRules firstsRule emptyAbove fieldRule recordRules countersRule chainFrom chainOf chainStep rises chainsRise onChain restZero wellFormed described stamped complete leads targets references equalOn conflictOn conflict live reached hop standing beaten keptAfter kept grounded settled shown joinedWith mergedRecords merged deltaOf editedBy newLabel flagOf flagOnly odd redoing spent supported valuesRule newRecord insertion recordAt registerAt withRegister leading updateRedoes updateConflict update deletionRedoes deletion schemaLength tableLength deltaLength marksLength badIndex schemaNumber marksOf marksNumber marksCount marksMarks editNumber editTable insertionOf insertionNumber insertionLabel updateOf deletionOf pad header row sameWords book bookBlock ofKind changeOf changeNumber changeTable strikeOf strikeNumber strikeTable findNumber isShown findIndex pastTheLabels
