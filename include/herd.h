@@ -19,7 +19,8 @@
  * Link with libherd.a (rt staticlib herd, or tools/install and pkg-config). Its objects are for x86-64 Linux. Of the C library it needs
  * memset and the like, and nothing else. At start-up compare the library with this header (herd_version_fits).
  *
- * herdbook.h has the herd book of a barn above these calls: a fixed schema, and calls in the barn's own words.
+ * herdbook.h has the herd book of a barn above these calls: a fixed schema, and calls in the barn's own words. docs/CALLS.md tells with
+ * examples what each call does, and docs/STORING.md what a caller must know so as to lose nothing.
  *
  * What all calls need
  *   - A slice is a pointer and then its length, in words, or in bytes for marks. The pointer is not null, also with length 0; it is
@@ -316,7 +317,7 @@ HERD_CALL uint64_t herd_lookup(const uint64_t *schema, size_t schema_words, cons
  * Changes: own; delta, which becomes the changed records; *label, the new label, 0 in a refusal.
  */
 HERD_CALL uint64_t herd_insert(const uint64_t *schema, size_t schema_words, uint64_t *own, size_t own_words, uint64_t *delta,
-                               size_t delta_words, size_t relation, const uint64_t *values, size_t value_count, uint64_t *label);
+                               size_t delta_words, size_t relation, const uint64_t *values, size_t value_count, herd_label *label);
 
 /*
  * Updates one field of a shown record; the clock rises by 1. A deleted new target is redone, and so is a deleted old target by abort

@@ -51,6 +51,9 @@ impl AsRef<[u64]> for Delta {
 /// A table of one replica, in [`table_words`](crate::table_words)`(N)` words of any storage: an
 /// array, a `Vec`, a lent slice.
 ///
+/// For large N lend a slice or take a `Vec`: with N = 4,096 an array has 0.9 MB, a debug build copies
+/// it on the stack, and the 2 MiB of a thread overflow.
+///
 /// Every call that takes a schema takes the one under which the table was made; under another it
 /// answers [`Error::OwnNotWellFormed`] where the table does not fit it.
 ///
@@ -281,6 +284,10 @@ impl<W: AsRef<[u64]> + AsMut<[u64]>> Table<W> {
     /// assert_eq!(Table::start([0; table_words(8)], 1)?.capacity(), 8);
     /// assert_eq!(Table::start([0; table_words(8)], 256), Err(Error::RelationOrReplica));
     /// assert_eq!(Table::start([0; table_words(8) + 1], 1), Err(Error::LengthOrIndex));
+    ///
+    /// // The largest table, in words that are lent.
+    /// let mut words = vec![0; table_words(4096)];
+    /// assert_eq!(Table::start(&mut words[..], 1)?.capacity(), 4096);
     /// # Ok::<(), Error>(())
     /// ```
     pub fn start(mut words: W, replica: u64) -> Result<Table<W>, Error> {
