@@ -3,14 +3,15 @@
 -- Assumes nothing.
 use Prim.Native.Nat.{ℕ}
 use mathlib.Core.Bool.{Bool, _&&_}
-use mathlib.Core.List.{List, [], _∷_, _++_, map}
+use mathlib.Core.List.{List, [], _∷_, _++_}
 use lib.Dec.{eqb}
 use lib.ListN.{replicate}
 use Rattle.crdt.specs.Labels.{labelOf}
-use Rattle.model.specs.Layout.{deltaWords}
-use Rattle.model.specs.Calls.{tableNumber, updateNumber, deletionNumber, Entry, shownList}
+use Rattle.model.specs.Calls.{updateNumber, deletionNumber}
 use Rattle.model.specs.Book.{groups, cows, book}
-use Rattle.model.specs.Cases.{header, row, sameWords}
+use Rattle.model.specs.Cases.{header, row}
+use Rattle.sentences.specs.Examples.{buffer}
+use Rattle.sentences.specs.Twelve.{shows}
 
 -- The group 1.1 and the cows 2.1, 2.2 and 2.3.
 abbrev group : ℕ
@@ -37,24 +38,17 @@ barn values =
     header 2 4 (1 ∷ 2 ∷ [])
     ++ (row 0 groups group 0 (12 ∷ []) (group ∷ []) ++ (cow 3 winner (40 ∷ 7 ∷ 0 ∷ []) ++ (cow 4 loser values ++ cow 0 youngest (41 ∷ 9 ∷ 0 ∷ []))))
 
-buffer : List ℕ
-buffer = replicate deltaWords 0
-
--- A table that shows these labels.
-shows : List ℕ → List ℕ → Bool
-shows t labels = eqb (tableNumber book t) 0 && sameWords (map (λ (e : Entry). e .label) (shownList book t)) labels
-
 -- "update: another standing record would conflict on a key that names the field", "Answer 9 still looks at all standing records.": transponder 8 is the
 -- loser's alone.
 unfoldable pub nineOverStanding : Bool
 unfolding barn buffer shows
 nineOverStanding =
     let t = barn (40 ∷ 8 ∷ 0 ∷ []) in
-    shows t (group ∷ winner ∷ youngest ∷ []) && eqb (updateNumber book t buffer 4 2 8) 9 && eqb (updateNumber book t buffer 4 2 10) 0
+    shows book t (group ∷ winner ∷ youngest ∷ []) && eqb (updateNumber book t buffer 4 2 8) 9 && eqb (updateNumber book t buffer 4 2 10) 0
 
 -- "deletion: another standing record references it by abort": the group is the loser's alone.
 unfoldable pub tenOverStanding : Bool
 unfolding barn buffer shows
 tenOverStanding =
     let t = barn (40 ∷ 8 ∷ group ∷ []) in
-    shows t (group ∷ winner ∷ youngest ∷ []) && eqb (deletionNumber book t buffer 1) 10 && eqb (deletionNumber book (barn (40 ∷ 8 ∷ 0 ∷ [])) buffer 1) 0
+    shows book t (group ∷ winner ∷ youngest ∷ []) && eqb (deletionNumber book t buffer 1) 10 && eqb (deletionNumber book (barn (40 ∷ 8 ∷ 0 ∷ [])) buffer 1) 0

@@ -2,14 +2,14 @@
 -- Assumes nothing.
 use Prim.Native.Nat.{ℕ}
 use mathlib.Core.Bool.{Bool, _&&_}
-use mathlib.Core.List.{List, [], _∷_, _++_, map}
+use mathlib.Core.List.{List, [], _∷_, _++_}
 use lib.Dec.{eqb}
 use lib.ListN.{replicate}
 use Rattle.crdt.specs.Labels.{labelOf}
-use Rattle.model.specs.Layout.{deltaWords}
-use Rattle.model.specs.Calls.{tableNumber, Entry, shownList}
 use Rattle.model.specs.Book.{cows, robots, milkings, cleanings, treatments, book, strikeNumber, strikeTable}
-use Rattle.model.specs.Cases.{header, row, sameWords}
+use Rattle.model.specs.Cases.{header, row}
+use Rattle.sentences.specs.Examples.{buffer}
+use Rattle.sentences.specs.Twelve.{shows}
 
 -- The record named, 1.1, a cow or a robot, and the one that names it, 2.1.
 abbrev named : ℕ
@@ -43,26 +43,19 @@ barn : List ℕ → List ℕ → List ℕ → List ℕ
 unfolding header
 barn firsts x y = header 2 2 firsts ++ (x ++ y)
 
-buffer : List ℕ
-buffer = replicate deltaWords 0
-
--- A table that shows these labels.
-shows : List ℕ → List ℕ → Bool
-shows t labels = eqb (tableNumber book t) 0 && sameWords (map (λ (e : Entry). e .label) (shownList book t)) labels
-
 -- Both records are shown. The first is not struck off, and both are shown as before; or it is, and neither is.
 held : ℕ → List ℕ → Bool
 unfolding buffer shows
-held kind t = shows t (named ∷ naming ∷ []) && eqb (strikeNumber kind t buffer 1) 10 && shows (strikeTable kind t buffer 1) (named ∷ naming ∷ [])
+held kind t = shows book t (named ∷ naming ∷ []) && eqb (strikeNumber kind t buffer 1) 10 && shows book (strikeTable kind t buffer 1) (named ∷ naming ∷ [])
 
 taken : ℕ → List ℕ → Bool
 unfolding buffer shows
-taken kind t = shows t (named ∷ naming ∷ []) && eqb (strikeNumber kind t buffer 1) 0 && shows (strikeTable kind t buffer 1) []
+taken kind t = shows book t (named ∷ naming ∷ []) && eqb (strikeNumber kind t buffer 1) 0 && shows book (strikeTable kind t buffer 1) []
 
 -- The second record does not name the first, which is struck off alone.
 free : ℕ → List ℕ → Bool
 unfolding buffer shows
-free kind t = shows t (named ∷ naming ∷ []) && eqb (strikeNumber kind t buffer 1) 0 && shows (strikeTable kind t buffer 1) (naming ∷ [])
+free kind t = shows book t (named ∷ naming ∷ []) && eqb (strikeNumber kind t buffer 1) 0 && shows book (strikeTable kind t buffer 1) (naming ∷ [])
 
 -- "A milking names cow by propagation and robot by abort": a robot that a milking alone names is not struck off.
 unfoldable pub robotOfMilking : Bool

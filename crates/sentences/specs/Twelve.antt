@@ -79,7 +79,7 @@ buffer : List ℕ
 buffer = replicate deltaWords 0
 
 -- A table that shows these labels.
-shows : List ℕ → List ℕ → List ℕ → Bool
+unfoldable pub shows : List ℕ → List ℕ → List ℕ → Bool
 shows s t labels = eqb (tableNumber s t) 0 && sameWords (map (λ (e : Entry). e .label) (shownList s t)) labels
 
 -- A field behind the eighth is a field as any other.
