@@ -7,31 +7,21 @@ use mathlib.Core.Bool.{Bool, true, false, cond}
 use mathlib.Core.List.{List}
 use lib.Dec.{eqb}
 use Rattle.crdt.proofs.Tests.{and-left}
-use lib.Count.{ones}
-use Rattle.crdt.specs.Labels.{isLabel, labelWithin}
-use Rattle.crdt.specs.Flags.{deleted, redone}
-use Rattle.crdt.specs.Cells.{upTo, joinReg, joinRegs, joinCell, joinOpt}
-use Rattle.model.specs.Layout.{word, block, relations, fieldCount, kindAt, maskAt, base, capacityOf, replicaAt, clockAt, usedAt, firstAt, nextAt, relationAt, labelAt, flagAt, valueAt, stampAt}
-use Rattle.model.specs.Lists.{each, any, from, listed, only, some-of, all-of, times, lowest}
-use Rattle.model.specs.Schemas.{blockRule, emptyBlock, broken, relationOf, schemaOf, relationNumbered}
-use Rattle.model.specs.Records.{has, own, at, insert, inOrder, distinct, leastAbove, positionFrom}
-use Rattle.model.specs.Tables.{recordOf, decode, follower, encodeRecord, encodeRecords, encodeHeader, encode}
-use Rattle.model.specs.WellFormed.{headerRules, firstsRule, emptyAbove, fieldRule, recordRules, countersRule, chainFrom, chainOf, chainStep, rises, chainsRise, onChain, restZero, wellFormed}
-use Rattle.model.specs.Shown.{described, stamped, complete, leads, targets, references, equalOn, conflictOn, conflict, live, reached, hop, standing, beaten, keptAfter, kept, grounded, settled, shown}
-use Rattle.model.specs.Merge.{joinedWith, mergedRecords, merged, tooMany}
-use Rattle.model.specs.Edits.{deltaOf, editedBy, newLabel, flagOf, flagOnly, odd, redoing, spent, supported, valuesRule, newRecord, insertion, recordAt, registerAt, withRegister, leading, updateRedoes, updateConflict, update, deletionRedoes, deletion}
-use Rattle.model.specs.Calls.{schemaLength, tableLength, deltaLength, marksLength, badIndex, schemaNumber, startNumber, startTable, mergeNumber, mergeTable, marksOf, marksNumber, marksMarks, marked, placeKey, walkNumber, walkGiven, editNumber, editTable, editDelta, insertionOf, insertionNumber, insertionTable, insertionDelta, updateOf, deletionOf, entryAt, walked, tableWalked, shownList}
-use Rattle.model.specs.Runs.{words, Moment, ago, afterCall, next, begun}
+use Rattle.model.specs.Layout.{capacityOf}
+use Rattle.model.specs.Lists.{lowest}
+use Rattle.model.specs.Calls.{schemaLength, tableLength, startNumber, startTable, mergeNumber}
+use Rattle.model.specs.Runs.{words, Moment, ago, begun}
 use Rattle.model.specs.Demand.{SameEdits}
-use Rattle.model.specs.Cases.{pad, sameWords, sameEntries}
-use Rattle.model.specs.Examples.{blank, answerOf, replicas, within}
-use Rattle.model.specs.Book.{book, bookBlock, ofKind, changeOf, changeNumber, changeTable, changeDelta, strikeOf, strikeNumber, strikeTable, strikeDelta}
-use Rattle.model.specs.BookRuns.{takeIn, bookNext, bookHistory, AllowedCall, BookRun}
+use Rattle.model.specs.Cases.{pad}
+use Rattle.model.specs.Examples.{replicas}
+use Rattle.model.specs.Book.{book, bookBlock}
+use Rattle.model.specs.BookRuns.{takeIn, bookHistory, AllowedCall, BookRun}
 use Rattle.model.specs.BookExample.{bookAnswer, bookAnswers, bookBlanks, bookFirst, bookCalls, bookEnd, bookListed, bookSame, bookEnds, bookRuns}
+use Rattle.model.proofs.Unfolded.{run-parts}
 use Rattle.model.proofs.Runs.{refused, same-edits}
 
 pub book-runs-hold : bookRuns ≡ true
-unfolding blank ones isLabel labelWithin deleted redone upTo joinReg joinRegs joinCell joinOpt word block relations fieldCount kindAt maskAt base capacityOf replicaAt clockAt usedAt firstAt nextAt relationAt labelAt flagAt valueAt stampAt each any from listed only some-of all-of times lowest blockRule emptyBlock broken relationOf schemaOf relationNumbered has own at insert inOrder distinct leastAbove positionFrom recordOf decode follower encodeRecord encodeRecords encodeHeader encode headerRules firstsRule emptyAbove fieldRule recordRules countersRule chainFrom chainOf chainStep rises chainsRise onChain restZero wellFormed described stamped complete leads targets references equalOn conflictOn conflict live reached hop standing beaten keptAfter kept grounded settled shown joinedWith mergedRecords merged tooMany deltaOf editedBy newLabel flagOf flagOnly odd redoing spent supported valuesRule newRecord insertion recordAt registerAt withRegister leading updateRedoes updateConflict update deletionRedoes deletion schemaLength tableLength deltaLength marksLength badIndex schemaNumber startNumber startTable mergeNumber mergeTable marksOf marksNumber marksMarks marked placeKey walkNumber walkGiven editNumber editTable editDelta insertionOf insertionNumber insertionTable insertionDelta updateOf deletionOf entryAt walked tableWalked shownList afterCall next begun pad sameWords sameEntries answerOf book bookBlock ofKind changeOf changeNumber changeTable changeDelta strikeOf strikeNumber strikeTable strikeDelta bookNext bookHistory bookAnswer bookAnswers bookBlanks bookCalls bookListed within bookRuns bookSame bookEnds
+unfolding run-parts bookAnswer bookAnswers bookBlanks bookCalls bookListed bookSame bookEnds bookRuns
 book-runs-hold = refl
 
 pub book-example-run : BookRun bookFirst bookCalls

@@ -8,4 +8,5 @@ pub mod Losers
 pub mod Lookups
 pub mod Figures
 pub mod Book
+pub mod Unfolded
 pub mod BookRuns

@@ -16,7 +16,8 @@ use Rattle.model.specs.Lists.{check, lowest}
 use Rattle.model.specs.Schemas.{broken}
 use Rattle.model.specs.WellFormed.{wellFormed}
 use Rattle.model.specs.Edits.{Edit}
-use Rattle.model.specs.Calls.{done, schemaLength, tableLength, deltaLength, badIndex, startNumber, editNumber, editTable, updateOf, updateNumber, updateTable, updateDelta, deletionOf, deletionNumber, deletionTable, deletionDelta, shownList}
+use Rattle.model.specs.Calls.{done, schemaLength, tableLength, deltaLength, badIndex, startNumber, editNumber, editTable, updateOf, updateNumber, updateTable, updateDelta, deletionOf, deletionNumber, deletionTable, deletionDelta}
+use Rattle.model.specs.Calls.{shownList}
 use Rattle.model.specs.Runs.{words, Call, start, merge, insertion, update, deletion, Moment, afterCall, ago, next, history, Allowed, Run, begun}
 use Rattle.model.specs.Demand.{SameRecords, Converged}
 use Rattle.model.specs.Book.{book, ofKind, changeOf, changeNumber, changeTable, changeDelta, strikeOf, strikeNumber, strikeTable, strikeDelta}

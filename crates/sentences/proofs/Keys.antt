@@ -3,7 +3,7 @@
 use mathlib.Core.Path.{_≡_, refl}
 use mathlib.Core.Bool.{true}
 use Rattle.sentences.specs.Keys.{keyFields}
-use Rattle.sentences.proofs.Unfolded.{schema-parts}
+use Rattle.model.proofs.Unfolded.{schema-parts}
 
 pub key-fields-hold : keyFields ≡ true
 unfolding schema-parts keyFields

@@ -11,7 +11,6 @@ pub mod Old
 pub mod Barn
 pub mod Book
 pub mod BookRuns
-pub mod Unfolded
 pub mod Strikes
 pub mod Standing
 pub mod Spoiled

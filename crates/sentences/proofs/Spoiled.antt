@@ -3,7 +3,7 @@
 use mathlib.Core.Path.{_≡_, refl}
 use mathlib.Core.Bool.{true}
 use Rattle.sentences.specs.Spoiled.{headerSpoiled, firstsSpoiled, chainsAbove}
-use Rattle.sentences.proofs.Unfolded.{lookup-parts}
+use Rattle.model.proofs.Unfolded.{lookup-parts}
 
 pub header-spoiled-holds : headerSpoiled ≡ true
 unfolding lookup-parts headerSpoiled

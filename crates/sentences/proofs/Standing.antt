@@ -4,7 +4,7 @@ use mathlib.Core.Path.{_≡_, refl}
 use mathlib.Core.Bool.{true}
 use Rattle.model.specs.Book.{bookBlock, book}
 use Rattle.sentences.specs.Standing.{nineOverStanding, tenOverStanding}
-use Rattle.sentences.proofs.Unfolded.{edit-parts}
+use Rattle.model.proofs.Unfolded.{edit-parts}
 
 pub nine-over-standing-holds : nineOverStanding ≡ true
 unfolding edit-parts bookBlock book nineOverStanding

@@ -3,7 +3,7 @@
 use mathlib.Core.Path.{_≡_, refl}
 use mathlib.Core.Bool.{true}
 use Rattle.sentences.specs.Strikes.{robotOfMilking, cowOfMilking, robotOfCleaning, cowOfTreatment}
-use Rattle.sentences.proofs.Unfolded.{strike-parts}
+use Rattle.model.proofs.Unfolded.{strike-parts}
 
 pub robot-of-milking-holds : robotOfMilking ≡ true
 unfolding strike-parts robotOfMilking

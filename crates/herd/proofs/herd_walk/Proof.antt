@@ -15,7 +15,9 @@ number-requires : tie.Need-number-requires
 number-requires c κs = search needs
 
 returns : tie.Need-returns
-returns c = (told-number (c .before .before .next-from .ensures .0) (c .number .ensures), (told-value (c .before .before .next-from .ensures .0) (c .before .index .ensures), c .before .before .next-from .ensures .1))
+returns c =
+    let walked = c .before .before .next-from .ensures in
+    (told-number (walked .0) (c .number .ensures), (told-value (walked .0) (c .before .index .ensures), walked .1))
 
 pub herd-walk-spec : {M : Type 1} → statement M
 herd-walk-spec = tie.close (tie.spec next-from-requires index-requires number-requires returns)
