@@ -142,6 +142,11 @@ static void same_number(void)
     done(take_in(office, robot, WORDS), "the office takes in the new season");
     expect(value(office, HERDBOOK_COW, cow, HERDBOOK_COW_GROUP) == a && value(office, HERDBOOK_GROUP, a, HERDBOOK_GROUP_NUMBER) == 77,
            "the old season's cow is in the new group");
+
+    /* It does not where the robot first takes in a copy that has all it sent. */
+    done(herd_start(robot, WORDS, 1), "the robot is started anew with its number");
+    done(take_in(robot, office, WORDS), "it takes in the office's table");
+    expect(enter_group(robot, 78) > cow, "its labels are new ones");
 }
 
 /* A table written over its old words, of which the first part came to be written: is it accepted, and neither the old nor the new one? */
@@ -193,6 +198,18 @@ static void loser_put_right(void)
     done(book_change_cow(robot, WORDS, delta, HERD_DELTA_WORDS, l, HERDBOOK_COW_EAR_TAG, 41), "the loser gets hers");
     done(book_change_cow(robot, WORDS, delta, HERD_DELTA_WORDS, w, HERDBOOK_COW_EAR_TAG, 40), "and the winner hers again");
     expect(shown(robot, w) && shown(robot, l) && shown(robot, t), "both cows and the treatment are listed");
+    done(take_in(office, robot, WORDS), "the office takes them in");
+    expect(shown(office, index_of(office, HERDBOOK_COW, winner)) && shown(office, index_of(office, HERDBOOK_COW, loser)), "and lists both cows");
+
+    /* Or the winner is struck off. */
+    start();
+    winner = enter_cow(robot, 40, 7, HERD_NONE);
+    loser = enter_cow(second, 40, 8, HERD_NONE);
+    done(take_in(robot, second, WORDS), "the first robot takes in the second");
+    w = index_of(robot, HERDBOOK_COW, winner), l = index_of(robot, HERDBOOK_COW, loser);
+    expect(!shown(robot, l), "the younger cow is not listed");
+    done(book_strike_cow(robot, WORDS, delta, HERD_DELTA_WORDS, w), "the older one is struck off");
+    expect(!shown(robot, w) && shown(robot, l), "and the younger one is listed");
 }
 
 /* A full table: striking off makes no room, zeros behind it do. */
@@ -310,7 +327,11 @@ static void journal_recovered(void)
             done(book_change_milking(robot, WORDS, delta, HERD_DELTA_WORDS, last, HERDBOOK_MILKING_GRAMS, 9100), "a milking is changed");
         else if (edit == 4)
             done(book_strike_milking(robot, WORDS, delta, HERD_DELTA_WORDS, last), "a milking is struck off");
-        else
+        else if (edit == 5) {
+            done(take_in(office, robot, WORDS), "the office takes in the robot's table");
+            enter_milking(office, cow, 9005, 385, edit);
+            done(take_in(robot, delta, HERD_DELTA_WORDS), "a delta of the office is taken in, and noted too");
+        } else
             milking = enter_milking(robot, cow, 9000 + edit, 385, edit);
         note();
         memcpy(after[edit], robot, sizeof robot);
@@ -318,6 +339,8 @@ static void journal_recovered(void)
     for (cut = 0; cut <= written; cut++)
         expect(memcmp(after[recover(second, cut)], second, sizeof second) == 0, "the journal gives the table back");
     expect(recover(second, written) == EDITS && milking != HERD_NONE, "all of it gives the last");
+    memcpy(saved, robot, sizeof saved);
+    expect(recover(second, written) == EDITS && memcmp(robot, second, sizeof robot) == 0, "onto the table written anew it changes no word");
     journal[HEAD + 3] ^= 1;
     expect(recover(second, written) == 0, "a changed bit is found");
 }
