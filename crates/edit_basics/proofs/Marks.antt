@@ -9,7 +9,7 @@ use native.Mathlib.Omega.{arith}
 use lib.Dec.{eqb, ltb, leb}
 use lib.ListN.{getD}
 use borrow.Author.Tests.{eqb-true, eq-eqb, ne-eqb, leb-true, le-leb, lt-leb}
-use Rattle.crdt.proofs.Tests.{test, clash, and-left, and-right, and-both, or-cases, not-true}
+use Rattle.crdt.proofs.Tests.{test, clash, and-left, and-right, and-both, or-cases, not-true, same-test}
 use Rattle.crdt.specs.Labels.{isLabel}
 use Rattle.model.specs.Layout.{usedAt, relationAt, labelAt}
 use Rattle.model.specs.Lists.{some-of, all-of}
@@ -29,7 +29,7 @@ use Rattle.marks.specs.Marks.{isMarked}
 use Rattle.marks.proofs.Marks.{marked-true, true-marked, marked-none}
 use Rattle.marks.proofs.Members.{record-in, in-record, member-at as held-in}
 use Rattle.edit_basics.specs.Targets.{held, Placed}
-use Rattle.edit_basics.proofs.Turns.{same-test, not-so, NoneTo}
+use Rattle.edit_basics.proofs.Turns.{not-so, NoneTo}
 
 abbrev pub Part : List ℕ → List Rec → Type 0
 Part t l = (x : Rec) → x ∈ l → x ∈ held t

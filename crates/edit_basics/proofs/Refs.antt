@@ -9,7 +9,7 @@ use native.Mathlib.Omega.{arith}
 use lib.Dec.{eqb, ltb, leb}
 use lib.ListN.{getD}
 use borrow.Author.Tests.{eqb-true, eq-eqb, ne-eqb}
-use Rattle.crdt.proofs.Tests.{test, clash, and-left, and-right, and-both, or-cases, or-left, or-right, Tri, low, same, high, tri}
+use Rattle.crdt.proofs.Tests.{test, clash, and-left, and-right, and-both, or-cases, or-left, or-right, Tri, low, same, high, tri, same-test}
 use Rattle.crdt.specs.Cells.{Reg, reg, Cell}
 use Rattle.model.specs.Layout.{fields, mostRecords, fieldCount, kindAt, usedAt, relationAt, valueAt, stampAt}
 use Rattle.model.specs.Lists.{from, listed, some-of}
@@ -23,7 +23,7 @@ use Rattle.references.specs.Order.{Checked, keyAt}
 use Rattle.references.specs.Resolved.{absent, found, resolvedAt, Resolves}
 use Rattle.references.proofs.Places.{Spot, spot, position-is, key-relation, relation-least, relation-known, fields-most, used-most}
 use Rattle.edit_basics.specs.Targets.{kindsOf, Placed, meets}
-use Rattle.edit_basics.proofs.Turns.{same-test, not-so, NoneTo}
+use Rattle.edit_basics.proofs.Turns.{not-so, NoneTo}
 
 -- references field by field
 module _ (q : ℕ → Bool) (p : ℕ → Bool) (kind : ℕ → ℕ) (f : ℕ → Reg) where

@@ -1,4 +1,4 @@
--- Tests that are equal, tests of joined lists, and a scan that has met nothing so far.
+-- A test that fails, tests of joined lists, and a scan that has met nothing so far.
 -- Assumes nothing.
 use Prim.Native.Nat.{ℕ, _+_, _≤_, _<_}
 use mathlib.Core.Path.{_≡_, refl, sym, _∙_, ap}
@@ -10,14 +10,6 @@ use lib.Dec.{eqb}
 use borrow.Author.Tests.{eqb-true}
 use Rattle.crdt.proofs.Tests.{test, clash, and-none, Tri, low, same, high, tri}
 use Rattle.model.specs.Lists.{only, some-of, all-of}
-
-pub same-test : (x y : Bool) → (x ≡ true → y ≡ true) → (y ≡ true → x ≡ true) → x ≡ y
-same-test true y f g = sym (f refl)
-same-test false y f g = go (test y)
-  where
-    go : (y ≡ true) ⊎ (y ≡ false) → false ≡ y
-    go (inl e) = clash (g e) refl
-    go (inr e) = sym e
 
 pub not-so : (x : Bool) → (x ≡ true → ⊥) → x ≡ false
 not-so x f = go (test x)
@@ -42,15 +34,6 @@ none-more T n h e y a b = go (tri y (n + 1))
     go (high l) = absurd (omega arith)
 
 module _ {A : Type 0} where
-  pub all-append : (q : A → Bool) (l m : List A) → all-of q (l ++ m) ≡ (all-of q l && all-of q m)
-  unfolding all-of
-  all-append q [] m = refl
-  all-append q (x ∷ xs) m = go (q x) (all-append q xs m)
-    where
-      go : (b : Bool) → all-of q (xs ++ m) ≡ (all-of q xs && all-of q m) → (b && all-of q (xs ++ m)) ≡ ((b && all-of q xs) && all-of q m)
-      go true e = e
-      go false e = refl
-
   pub some-append : (q : A → Bool) (l m : List A) → some-of q (l ++ m) ≡ (some-of q l || some-of q m)
   unfolding some-of
   some-append q [] m = refl

@@ -18,9 +18,9 @@ use Rattle.model.specs.Schemas.{isReference}
 use Rattle.model.specs.Shown.{leads}
 use Rattle.model.specs.Edits.{valueRule, valuesRule, leading}
 use Rattle.laws.proofs.Fields.{stampedBy, values-length}
-use Rattle.wellformed.proofs.Ranges.{listed-length}
+use Rattle.wellformed.proofs.Ranges.{listed-length, all-append}
 use Rattle.edit_basics.specs.Targets.{kindsOf, bare}
-use Rattle.edit_basics.proofs.Turns.{all-append, some-append, not-so}
+use Rattle.edit_basics.proofs.Turns.{some-append, not-so}
 
 pick : (b : Bool) (k : ℕ) (r : List ℕ) → cond b (k ∷ r) r ≡ cond b (k ∷ []) [] ++ r
 pick true k r = refl

@@ -13,7 +13,7 @@ use lib.Seq.{getD-set-same, getD-set-other}
 use borrow.Author.Tests.{eqb-true, eqb-false, eq-eqb, ne-eqb, lt-ltb, le-ltb}
 use Rattle.crdt.specs.Flags.{largestFlag, isOdd}
 use Rattle.crdt.specs.Cells.{Cell}
-use Rattle.crdt.proofs.Tests.{test, clash, and-left, and-right, and-both, Tri, low, same, high, tri}
+use Rattle.crdt.proofs.Tests.{test, clash, and-left, and-right, and-both, Tri, low, same, high, tri, same-test}
 use Rattle.model.specs.Layout.{usedAt, flagAt}
 use Rattle.model.specs.Lists.{only, some-of}
 use Rattle.model.specs.Schemas.{isReference, isAbort, leadsTo, propagationKinds, schemaOf, Relation}
@@ -33,7 +33,7 @@ use Rattle.marks.proofs.Marks.{marked-true, true-marked}
 use Rattle.marks.proofs.Members.{record-in, ordered-once}
 use Rattle.edit_delta.specs.Picked.{Picked}
 use Rattle.edit_basics.specs.Targets.{held, Placed}
-use Rattle.edit_basics.proofs.Turns.{same-test, not-so, NoneTo, among-only, some-append}
+use Rattle.edit_basics.proofs.Turns.{not-so, NoneTo, among-only, some-append}
 use Rattle.edit_basics.proofs.Marks.{held-found, held-none}
 
 -- the flag of a record

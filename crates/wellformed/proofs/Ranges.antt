@@ -3,7 +3,7 @@
 use Prim.Native.Nat.{ℕ, zero, suc, _+_, _-_, _≤_, _<_}
 use mathlib.Core.Path.{_≡_, refl, sym, _∙_, ap}
 use mathlib.Core.Bool.{Bool, true, false, _&&_, _||_}
-use mathlib.Core.List.{List, [], _∷_}
+use mathlib.Core.List.{List, [], _∷_, _++_}
 use mathlib.Core.Logic.{_⊎_, inl, inr, _≢_}
 use native.Mathlib.Omega.{arith}
 use lib.Dec.{eqb}
@@ -91,3 +91,12 @@ module _ {A : Type 0} where
   unfolding all-of
   all-same p a zero h = refl
   all-same p a (suc n) h = and-both (p a) _ h (all-same p a n h)
+
+  pub all-append : (q : A → Bool) (l m : List A) → all-of q (l ++ m) ≡ (all-of q l && all-of q m)
+  unfolding all-of
+  all-append q [] m = refl
+  all-append q (x ∷ xs) m = go (q x) (all-append q xs m)
+    where
+      go : (b : Bool) → all-of q (xs ++ m) ≡ (all-of q xs && all-of q m) → (b && all-of q (xs ++ m)) ≡ ((b && all-of q xs) && all-of q m)
+      go true e = e
+      go false e = refl
