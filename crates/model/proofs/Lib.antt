@@ -6,6 +6,7 @@ pub mod Changed
 pub mod Copies
 pub mod Losers
 pub mod Lookups
+pub mod Turns
 pub mod Figures
 pub mod Book
 pub mod Unfolded

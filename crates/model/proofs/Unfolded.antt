@@ -24,7 +24,12 @@ use Rattle.model.specs.Calls.{insertionOf, insertionNumber, insertionLab
 use Rattle.model.specs.Calls.{startNumber, startTable, mergeNumber, mergeTable}
 use Rattle.model.specs.Runs.{afterCall, next, begun}
 use Rattle.model.specs.Lookup.{readRule, seekFrom, lookupSeek, lookupNumber}
-use Rattle.model.specs.Cases.{pad, header, row, sameWords, sameEntries}
+use Rattle.model.specs.Shapes.{blockIn, countIn, kindIn, maskIn, baseIn, capacityIn, nextIn, relationIn, labelIn, flagIn, valueIn, stampIn}
+use Rattle.model.specs.Shapes.{schemaLengthIn, tableLengthIn, blockRuleIn, emptyBlockIn, brokenIn, headerRulesIn, recordRulesIn, countersRuleIn}
+use Rattle.model.specs.Shapes.{chainFromIn, chainIn, chainStepIn, risesIn, chainsRiseIn, onChainIn, restZeroIn, wellFormedIn}
+use Rattle.model.specs.Shapes.{rowsFrom, fieldsTurned, turnedBlock, turnedSchema, turnedRecord, turnedTable, tooWide, shapeLengths}
+use Rattle.model.specs.Shapes.{widenNumber, widenSchema, widenTable, narrowNumber, narrowSchema, narrowTable}
+use Rattle.model.specs.Cases.{pad, blockOf, herd, header, row, sameWords, sameEntries}
 use Rattle.model.specs.Examples.{blank, answerOf, within}
 use Rattle.model.specs.Book.{bookBlock, book, ofKind, changeOf, changeNumber, changeTable, changeDelta, strikeOf, strikeNumber, strikeTable, strikeDelta}
 use Rattle.model.specs.Book.{findNumber, isShown, findIndex}
@@ -51,6 +56,23 @@ table-parts = tt
 unfoldable pub lookup-parts : Unit {0}
 unfolding table-parts readRule seekFrom lookupSeek lookupNumber
 lookup-parts = tt
+
+-- The same words and rules by the number of fields, and what turns them.
+unfoldable pub form-parts : Unit {0}
+unfolding blockIn countIn kindIn maskIn baseIn capacityIn nextIn relationIn labelIn flagIn valueIn stampIn schemaLengthIn tableLengthIn
+form-parts = tt
+
+unfoldable pub form-rule-parts : Unit {0}
+unfolding blockRuleIn emptyBlockIn brokenIn headerRulesIn recordRulesIn countersRuleIn chainFromIn chainIn chainStepIn risesIn chainsRiseIn onChainIn restZeroIn wellFormedIn
+form-rule-parts = tt
+
+unfoldable pub turned-parts : Unit {0}
+unfolding from listed rowsFrom fieldsTurned turnedBlock turnedSchema turnedRecord turnedTable tooWide shapeLengths
+turned-parts = tt
+
+unfoldable pub turn-parts : Unit {0}
+unfolding table-parts form-parts form-rule-parts turned-parts blockOf herd widenNumber widenSchema widenTable narrowNumber narrowSchema narrowTable
+turn-parts = tt
 
 -- Records, the four steps, and the list.
 unfoldable pub record-parts : Unit {0}

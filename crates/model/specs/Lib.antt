@@ -13,6 +13,7 @@ pub mod Runs
 pub mod Demand
 pub mod Compare
 pub mod Lookup
+pub mod Shapes
 pub mod Cases
 pub mod Second
 pub mod Examples
@@ -20,6 +21,7 @@ pub mod Changed
 pub mod Copies
 pub mod Losers
 pub mod Lookups
+pub mod Turns
 pub mod Figures
 pub mod Book
 pub mod Barn

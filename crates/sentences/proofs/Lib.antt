@@ -8,6 +8,7 @@ pub mod Compared
 pub mod Lookup
 pub mod Twelve
 pub mod Old
+pub mod Shapes
 pub mod Barn
 pub mod Book
 pub mod BookRuns

@@ -1,5 +1,6 @@
 pub mod Examples
 pub mod Twelve
+pub mod Shapes
 pub mod Strikes
 pub mod Standing
 pub mod Spoiled

@@ -1,0 +1,9 @@
+pub mod Rows
+pub mod Same
+pub mod Turned
+pub mod Spelled
+pub mod Lengths
+pub mod Agree
+pub mod Old
+pub mod Round
+pub mod Trips
