@@ -28,7 +28,12 @@ use Rattle.answers.specs.declared.CompareAnswer.{CompareAnswer}
 use Rattle.answers.specs.declared.CompareAnswer.the-variants as compare
 use Rattle.answers.specs.declared.LookupAnswer.{LookupAnswer}
 use Rattle.answers.specs.declared.LookupAnswer.the-variants as lookup
+use Rattle.answers.specs.declared.WidenAnswer.{WidenAnswer}
+use Rattle.answers.specs.declared.WidenAnswer.the-variants as widen
+use Rattle.answers.specs.declared.NarrowAnswer.{NarrowAnswer}
+use Rattle.answers.specs.declared.NarrowAnswer.the-variants as narrow
 use Rattle.answers.specs.Told.{Told, Determined, schemaTold, tableTold, startTold, mergeTold, marksTold, walkTold, insertionTold, updateTold, deletionTold, findTold, compareTold, lookupTold}
+use Rattle.answers.specs.Told.{widenTold, narrowTold}
 
 -- An answer that can be read back from what is told of it is determined.
 read-back : {A : Type 0} (f : A → Told) (g : Told → A) → ((a : A) → g (f a) ≡ a) → Determined f
@@ -203,3 +208,30 @@ lookup-back lookup.NoRelation = refl
 
 pub lookup-determined : Determined lookupTold
 lookup-determined = read-back lookupTold lookup-of lookup-back
+
+abbrev widen-of : Told → WidenAnswer
+widen-of x = cond (eqb (x .number) 0) widen.Widened (cond (eqb (x .number) 1) widen.WrongLength (cond (eqb (x .number) 2) widen.SchemaBroken widen.TableBroken))
+
+widen-back : (a : WidenAnswer) → widen-of (widenTold a) ≡ a
+widen-back widen.Widened = refl
+widen-back widen.WrongLength = refl
+widen-back widen.SchemaBroken = refl
+widen-back widen.TableBroken = refl
+
+pub widen-determined : Determined widenTold
+widen-determined = read-back widenTold widen-of widen-back
+
+abbrev narrow-of : Told → NarrowAnswer
+narrow-of x =
+    cond (eqb (x .number) 0) narrow.Narrowed
+    (cond (eqb (x .number) 1) narrow.WrongLength (cond (eqb (x .number) 2) narrow.SchemaBroken (cond (eqb (x .number) 3) narrow.TableBroken narrow.TooManyFields)))
+
+narrow-back : (a : NarrowAnswer) → narrow-of (narrowTold a) ≡ a
+narrow-back narrow.Narrowed = refl
+narrow-back narrow.WrongLength = refl
+narrow-back narrow.SchemaBroken = refl
+narrow-back narrow.TableBroken = refl
+narrow-back narrow.TooManyFields = refl
+
+pub narrow-determined : Determined narrowTold
+narrow-determined = read-back narrowTold narrow-of narrow-back

@@ -29,6 +29,10 @@ use Rattle.answers.specs.declared.CompareAnswer.{CompareAnswer}
 use Rattle.answers.specs.declared.CompareAnswer.the-variants as compare
 use Rattle.answers.specs.declared.LookupAnswer.{LookupAnswer}
 use Rattle.answers.specs.declared.LookupAnswer.the-variants as lookup
+use Rattle.answers.specs.declared.WidenAnswer.{WidenAnswer}
+use Rattle.answers.specs.declared.WidenAnswer.the-variants as widen
+use Rattle.answers.specs.declared.NarrowAnswer.{NarrowAnswer}
+use Rattle.answers.specs.declared.NarrowAnswer.the-variants as narrow
 
 pub record Told : Type 0 where
   pub number : ℕ
@@ -142,3 +146,16 @@ lookupTold lookup.WrongLength = told 1 0
 lookupTold lookup.SchemaBroken = told 2 0
 lookupTold lookup.TableBroken = told 3 0
 lookupTold lookup.NoRelation = told 5 0
+
+abbrev pub widenTold : WidenAnswer → Told
+widenTold widen.Widened = told 0 0
+widenTold widen.WrongLength = told 1 0
+widenTold widen.SchemaBroken = told 2 0
+widenTold widen.TableBroken = told 3 0
+
+abbrev pub narrowTold : NarrowAnswer → Told
+narrowTold narrow.Narrowed = told 0 0
+narrowTold narrow.WrongLength = told 1 0
+narrowTold narrow.SchemaBroken = told 2 0
+narrowTold narrow.TableBroken = told 3 0
+narrowTold narrow.TooManyFields = told 14 0

@@ -2,6 +2,7 @@
 // of each case.
 ghost use mathlib.Core.Path.{_≡_};
 ghost use Rattle.answers.specs.Told.{schemaTold, tableTold, startTold, mergeTold, marksTold, walkTold, insertionTold, updateTold, deletionTold, findTold, compareTold, lookupTold};
+ghost use Rattle.answers.specs.Told.{widenTold, narrowTold};
 
 // Schema check.
 pub enum SchemaAnswer {
@@ -406,6 +407,52 @@ impl LookupAnswer {
             LookupAnswer::SchemaBroken => 0,
             LookupAnswer::TableBroken => 0,
             LookupAnswer::NoRelation => 0,
+        }
+    }
+}
+
+// An old schema and table turned into new ones.
+pub enum WidenAnswer {
+    Widened,
+    WrongLength,
+    SchemaBroken,
+    TableBroken,
+}
+
+impl WidenAnswer {
+    // The answer's number in document 01.
+    pub fn number(self) -> u64
+        ensures { λ r. ⌜ r ≡ widenTold self .number ⌝ }
+    {
+        match self {
+            WidenAnswer::Widened => 0,
+            WidenAnswer::WrongLength => 1,
+            WidenAnswer::SchemaBroken => 2,
+            WidenAnswer::TableBroken => 3,
+        }
+    }
+}
+
+// A schema and a table turned back into old ones.
+pub enum NarrowAnswer {
+    Narrowed,
+    WrongLength,
+    SchemaBroken,
+    TableBroken,
+    TooManyFields,
+}
+
+impl NarrowAnswer {
+    // The answer's number in document 01, and 14 of document 02.
+    pub fn number(self) -> u64
+        ensures { λ r. ⌜ r ≡ narrowTold self .number ⌝ }
+    {
+        match self {
+            NarrowAnswer::Narrowed => 0,
+            NarrowAnswer::WrongLength => 1,
+            NarrowAnswer::SchemaBroken => 2,
+            NarrowAnswer::TableBroken => 3,
+            NarrowAnswer::TooManyFields => 14,
         }
     }
 }

@@ -8,12 +8,12 @@ major = 4
 
 -- Something was added, and what there was is the same.
 abbrev pub minor : ℕ
-minor = 0
+minor = 1
 
 -- Neither; the code is another.
 abbrev pub patch : ℕ
 patch = 0
 
--- One number, which is the larger the later the version is: 4.0.0 is 40000.
+-- One number, which is the larger the later the version is: 4.1.0 is 40100.
 abbrev pub version : ℕ
 version = major * 10000 + minor * 100 + patch

@@ -4,12 +4,13 @@ ghost use mathlib.Core.Path.{_≡_};
 ghost use Rattle.model.specs.Calls.{schemaNumber, tableNumber, startNumber, startTable, valuesNumber, valuesFirst, mergeNumber, mergeTable, mergeChanged, marksNumber, marksCount, marksMarks, walkNumber, walkGiven, walkPlace, insertionNumber, insertionLabel, insertionTable, insertionDelta, updateNumber, updateTable, updateDelta, deletionNumber, deletionTable, deletionDelta};
 ghost use Rattle.model.specs.Compare.{compareNumber, compareVerdict};
 ghost use Rattle.model.specs.Lookup.{lookupNumber, lookupIndex};
+ghost use Rattle.model.specs.Shapes.{widenNumber, widenSchema, widenTable, narrowNumber, narrowSchema, narrowTable};
 ghost use Rattle.herd.specs.Version.{version};
 
 // The parts of the version. CHANGELOG.md tells when each one rises.
 const MAJOR: u64 = 4;
 
-const MINOR: u64 = 0;
+const MINOR: u64 = 1;
 
 const PATCH: u64 = 0;
 
@@ -96,6 +97,36 @@ pub extern "C" fn herd_lookup(
     let answer = lookup::lookup(schema, table, relation, label);
     *index = answer.index() as u64;
     answer.number()
+}
+
+// An old schema and table turned into new ones, for C: the answer's number.
+#[no_mangle]
+pub extern "C" fn herd_widen(
+    old_schema: &[u64],
+    old_table: &[u64],
+    schema: &mut [u64],
+    table: &mut [u64],
+) -> u64
+    ensures answer { λ r. ⌜ r ≡ widenNumber (now («old_schema» .entry)) (now («old_table» .entry)) (now (schema .entry)) (now (table .entry)) ⌝ }
+    ensures schema_words { λ _. ⌜ now (schema .exit) ≡ widenSchema (now («old_schema» .entry)) (now («old_table» .entry)) (now (schema .entry)) (now (table .entry)) ⌝ }
+    ensures table_words { λ _. ⌜ now (table .exit) ≡ widenTable (now («old_schema» .entry)) (now («old_table» .entry)) (now (schema .entry)) (now (table .entry)) ⌝ }
+{
+    shapes::widen(old_schema, old_table, schema, table).number()
+}
+
+// A schema and a table turned back into old ones, for C: the answer's number.
+#[no_mangle]
+pub extern "C" fn herd_narrow(
+    schema: &[u64],
+    table: &[u64],
+    old_schema: &mut [u64],
+    old_table: &mut [u64],
+) -> u64
+    ensures answer { λ r. ⌜ r ≡ narrowNumber (now (schema .entry)) (now (table .entry)) (now («old_schema» .entry)) (now («old_table» .entry)) ⌝ }
+    ensures schema_words { λ _. ⌜ now («old_schema» .exit) ≡ narrowSchema (now (schema .entry)) (now (table .entry)) (now («old_schema» .entry)) (now («old_table» .entry)) ⌝ }
+    ensures table_words { λ _. ⌜ now («old_table» .exit) ≡ narrowTable (now (schema .entry)) (now (table .entry)) (now («old_schema» .entry)) (now («old_table» .entry)) ⌝ }
+{
+    shapes::narrow(schema, table, old_schema, old_table).number()
 }
 
 // Insertion for C: the answer's number; `label` becomes the label of the new record, 0 in a refusal.

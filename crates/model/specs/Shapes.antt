@@ -2,7 +2,7 @@
 -- order of Layout, Schemas and WellFormed, which have w = 12; with w = 8 they are document 01's as it stood before F-7, whose sentences are quoted
 -- here with its figures. Then the turning of v fields into w, and the two calls.
 -- Assumes nothing.
-use Prim.Native.Nat.{ℕ, zero, suc, _+_, _*_, _-_, _/_, _%_, _≤_}
+use Prim.Native.Nat.{ℕ, zero, suc, _+_, _*_, _-_, _/_, _%_}
 use mathlib.Core.Path.{_≡_}
 use mathlib.Core.Bool.{Bool, true, cond, _||_, _&&_, not}
 use mathlib.Core.List.{List, [], _∷_, _++_}
@@ -10,7 +10,8 @@ use lib.Dec.{eqb, ltb, leb}
 use lib.ListN.{length, take, drop}
 use Rattle.crdt.specs.Labels.{largestCounter, isReplica, isLabel, counterOf}
 use Rattle.crdt.specs.Flags.{largestFlag}
-use Rattle.model.specs.Layout.{fields, mostRelations, mostRecords, headerWords, headWords, zeroWord, zeroWords, firstWords, word, relations, fieldCount, capacityOf, replicaAt, clockAt, usedAt, firstAt}
+use Rattle.model.specs.Layout.{fields, mostRelations, mostRecords, headerWords, headWords, zeroWord, zeroWords, firstWords}
+use Rattle.model.specs.Layout.{word, relations, fieldCount, capacityOf, replicaAt, clockAt, usedAt, firstAt}
 use Rattle.model.specs.Lists.{each, any, all-of, some-of, listed, check, lowest}
 use Rattle.model.specs.Schemas.{kindRule, maskRule, isReference, broken}
 use Rattle.model.specs.WellFormed.{firstsRule, emptyAbove, fieldRule, wellFormed}

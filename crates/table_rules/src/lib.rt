@@ -12,7 +12,7 @@ ghost use Rattle.table_rules.specs.Rows.{labelUnder, countersUnder, fiel
 use crdt::Label;
 
 // The zeros that end the header.
-fn zero_words(t: &[u64]) -> bool
+pub fn zero_words(t: &[u64]) -> bool
     ensures { λ x. ⌜ x ≡ each zeroWords (λ j. eqb (word (now (t .entry)) (firstWords + mostRelations + (j - 1))) 0) ⌝ }
 {
     let mut good = true;
@@ -146,7 +146,7 @@ fn fields_good(clock: u64, block: &[u64], row: &[u64]) -> bool
 }
 
 // A record by its own words.
-fn row_good(schema: &[u64], clock: u64, row: &[u64]) -> bool
+pub fn row_good(schema: &[u64], clock: u64, row: &[u64]) -> bool
     requires { ⌜ (clock ≤ largestCounter) × (length (now schema) ≡ schemaWords) × (relations (now schema) ≤ mostRelations) × (length (now row) ≡ recordWords) ⌝ }
     ensures { λ r. ⌜ r ≡ rowGood (now (schema .entry)) clock (now (row .entry)) ⌝ }
 {
