@@ -22,6 +22,7 @@ pub mod merge;
 pub mod random;
 mod rules;
 pub mod schema;
+pub mod shapes;
 pub mod shown;
 pub mod table;
 pub mod vectors;
@@ -35,10 +36,11 @@ pub use label::{delete, join_flags, join_registers, label_of, redo, Register};
 pub use lookup::lookup;
 pub use merge::merge;
 pub use schema::schema_check;
+pub use shapes::{narrow, widen};
 pub use shown::{marks, walk, Step};
 pub use table::{start, table_check, values};
 
-/// The refusals, with the numbers of document 01.
+/// The refusals, with the numbers of document 01 and of the requests.
 #[derive(Clone, Copy, Debug, PartialEq, Eq, PartialOrd, Ord)]
 pub enum Refusal {
     LengthOrIndex = 1,
@@ -54,6 +56,7 @@ pub enum Refusal {
     Full = 11,
     ClockAtEnd = 12,
     FlagAtEnd = 13,
+    TooManyFields = 14,
 }
 
 /// What a call hands back: its values, or the refusal.

@@ -1,7 +1,7 @@
 //! Merge.
 
 use crate::label::{flag_changed, join_flags, join_registers, register_changed, Register};
-use crate::layout;
+use crate::layout::{Form, NEW};
 use crate::rules::{holds, rule, to_twelve, Rule};
 use crate::schema;
 use crate::table::{self, Record, Table};
@@ -95,15 +95,20 @@ fn changed(before: &Table, after: &Table) -> usize {
 /// Merges the other table into the own; gives the number of old records with a change, plus those
 /// added.
 pub fn merge(schema: &[u64], own: &mut [u64], other: &[u64]) -> Answer<usize> {
-    let lengths = schema.len() == layout::SCHEMA
-        && table::capacity_of(own.len()).is_some()
-        && table::capacity_of(other.len()).is_some();
+    merge_in(NEW, schema, own, other)
+}
+
+/// The same of words in a form.
+pub fn merge_in(form: Form, schema: &[u64], own: &mut [u64], other: &[u64]) -> Answer<usize> {
+    let lengths = schema.len() == form.schema()
+        && table::capacity_in(form, own.len()).is_some()
+        && table::capacity_in(form, other.len()).is_some();
     need(lengths, Refusal::LengthOrIndex)?;
-    let schema = schema::read(schema).ok_or(Refusal::BrokenSchema)?;
-    let own_table = table::read(&schema, own).ok_or(Refusal::OwnTable)?;
-    let other_table = table::read(&schema, other).ok_or(Refusal::OtherTable)?;
+    let schema = schema::read_in(form, schema).ok_or(Refusal::BrokenSchema)?;
+    let own_table = table::read_in(form, &schema, own).ok_or(Refusal::OwnTable)?;
+    let other_table = table::read_in(form, &schema, other).ok_or(Refusal::OtherTable)?;
     let joined = join(&own_table, &other_table);
     need(holds(Rule::MergeFull, joined.records.len() <= joined.capacity), Refusal::Full)?;
-    own.copy_from_slice(&joined.words());
+    own.copy_from_slice(&joined.words_in(form));
     Ok(changed(&own_table, &joined))
 }

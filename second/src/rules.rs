@@ -339,6 +339,104 @@ rules! {
     /// "3 exactly if": not for a record that is on no chain. Dropped: for it too.
     LostUnseen,
 
+    // Between old and new tables.
+    /// 1: "a lent slice [...] has a wrong length": that of the schema turned.
+    TurnedSchemaLength,
+    /// 1: "a lent slice [...] has a wrong length": that of the table turned.
+    TurnedTableLength,
+    /// 1: "a lent slice [...] has a wrong length": that of the schema written. Dropped: as many words
+    /// as it has are written.
+    WrittenSchemaLength,
+    /// 1: "a lent slice [...] has a wrong length": that of the table written. Dropped: as many words
+    /// as it has are written.
+    WrittenTableLength,
+    /// "with N equal on both sides".
+    EqualCapacity,
+    /// 2: "schema broken", of the side turned. Dropped: 3.
+    TurnedSchemaBroken,
+    /// "3 for the table turned". Dropped: 4.
+    TurnedTableDamaged,
+    /// "the lowest that applies is the answer": 1 before 2. Dropped: 2 before 1.
+    TurnedLengthFirst,
+    /// "the lowest that applies is the answer": 2 before 3. Dropped: 3 before 2, where a header word
+    /// breaks its rule.
+    TurnedSchemaFirst,
+    /// "14 [...] if a schema to be turned back has a relation with more than eight fields". Dropped:
+    /// the first eight of them are turned back.
+    TooManyFields,
+    /// "a relation": any. Dropped: the first alone.
+    ManyOfAny,
+    /// "a schema [...] has a relation": with records or without. Dropped: one that has records.
+    ManyUnused,
+    /// "more than eight fields". Dropped: eight or more.
+    MoreThanEight,
+    /// "14, after 3". Dropped: before 3.
+    ManyAfterTable,
+    /// "14, after 3": after 2. Dropped: before 2, by the field counts as they stand.
+    ManyAfterSchema,
+    /// "14, after 3": after 1. Dropped: before 1, by the field counts as they stand.
+    ManyAfterLength,
+    /// "Old contents of the side written are ignored": a broken schema there is no 2.
+    WrittenSchemaUnasked,
+    /// "Old contents of the side written are ignored": a broken header there is no 3.
+    WrittenTableUnasked,
+    /// "R [...] stay the same".
+    SameRelations,
+    /// "each relation's field count".
+    SameFieldCounts,
+    /// "each relation's [...] kinds".
+    SameKinds,
+    /// "kinds": all eight. Dropped: the first seven.
+    EighthKind,
+    /// "each relation's [...] masks": the first.
+    SameFirstMask,
+    /// "each relation's [...] masks": the second.
+    SameSecondMask,
+    /// "the header": the replica number.
+    SameReplica,
+    /// "the header": the clock.
+    SameClock,
+    /// "the header": the used count.
+    SameUsed,
+    /// "the header": the first records of the relations.
+    SameFirsts,
+    /// "at each position". Dropped: records are laid in list order.
+    SamePositions,
+    /// "the record's next".
+    SameNext,
+    /// "the record's [...] relation".
+    SameRelation,
+    /// "the record's [...] label".
+    SameLabel,
+    /// "the record's [...] flag".
+    SameFlag,
+    /// "the record's [...] values".
+    SameValues,
+    /// "values": all eight. Dropped: the first seven.
+    EighthValue,
+    /// "the record's [...] stamps".
+    SameStamps,
+    /// "stamps": all eight. Dropped: the first seven.
+    EighthStamp,
+    /// "what the old form lacks is 0": the kinds. Dropped: they are left as they were.
+    LackingKinds,
+    /// "what the old form lacks is 0": the values. Dropped: they are left as they were.
+    LackingValues,
+    /// "what the old form lacks is 0": the stamps. Dropped: they are left as they were.
+    LackingStamps,
+    /// "words above the used records are zero". Dropped: they are left as they were.
+    AboveUsedZero,
+    /// "Old contents of the side written are ignored": the schema's. Dropped: no 0 is written.
+    OldSchemaIgnored,
+    /// "Old contents of the side written are ignored": the table's. Dropped: no 0 is written.
+    OldTableIgnored,
+    /// "A refusal changes no lent word": the schema written. Dropped: it is written before 3 and 14
+    /// are found.
+    RefusalKeepsSchema,
+    /// "A refusal changes no lent word": the table written. Dropped: it is zeroed before 2, 3 and 14
+    /// are found.
+    RefusalKeepsTable,
+
     // Insertion.
     /// "the new label is clock + 1 with the own replica number": the number. Dropped: 1.
     NewLabelReplica,

@@ -23,6 +23,15 @@ impl Kind {
         }
     }
 
+    /// The word of a schema that tells it.
+    pub fn word(self) -> u64 {
+        match self {
+            Kind::Plain => PLAIN,
+            Kind::Abort(relation) => layout::abort(relation),
+            Kind::Propagation(relation) => layout::propagation(relation),
+        }
+    }
+
     pub fn abort_target(self) -> Option<u64> {
         match self {
             Kind::Abort(relation) => Some(relation),
@@ -36,6 +45,8 @@ pub struct Relation {
     pub kinds: Vec<Kind>,
     /// For each key the fields it names, counted from 0.
     pub keys: Vec<Vec<usize>>,
+    /// The key masks; 0 is no key.
+    pub masks: [u64; KEYS],
 }
 
 #[derive(Clone, Debug, PartialEq, Eq)]
@@ -50,6 +61,21 @@ impl Schema {
             return None;
         }
         self.relations.get(number as usize - 1)
+    }
+
+    /// The words of the schema in a form; of fields that it lacks there are none.
+    pub fn words_in(&self, form: Form) -> Vec<u64> {
+        let mut words = vec![0; form.schema()];
+        words[RELATION_COUNT] = self.relations.len() as u64;
+        for (at, relation) in self.relations.iter().enumerate() {
+            let block = &mut words[form.block(at + 1)..form.block(at + 2)];
+            block[FIELD_COUNT] = relation.kinds.len() as u64;
+            for (field, kind) in relation.kinds.iter().take(form.fields).enumerate() {
+                block[KINDS + field] = kind.word();
+            }
+            block[form.masks()..form.block_zero()].copy_from_slice(&relation.masks);
+        }
+        words
     }
 }
 
@@ -98,14 +124,15 @@ fn read_block(form: Form, block: &[u64], relations: u64) -> Option<Relation> {
     {
         return None;
     }
-    let mut keys = Vec::new();
-    for mask in &block[form.masks()..][..KEYS] {
-        let key = read_key(*mask, fields)?;
+    let (mut keys, mut masks) = (Vec::new(), [0; KEYS]);
+    masks.copy_from_slice(&block[form.masks()..form.block_zero()]);
+    for mask in masks {
+        let key = read_key(mask, fields)?;
         if !key.is_empty() {
             keys.push(key);
         }
     }
-    Some(Relation { kinds, keys })
+    Some(Relation { kinds, keys, masks })
 }
 
 /// The schema that these words tell, if they are not broken.

@@ -54,7 +54,7 @@ impl Table {
         self.words_in(NEW)
     }
 
-    /// The same in a form that has the fields.
+    /// The same in a form; of fields that it lacks there are no words.
     pub fn words_in(&self, form: Form) -> Vec<u64> {
         let mut words = vec![0; form.table(self.capacity)];
         words[REPLICA] = self.replica;
@@ -65,7 +65,7 @@ impl Table {
             words[begin + RELATION] = record.relation;
             words[begin + LABEL] = record.label;
             words[begin + FLAG] = record.flag;
-            for (field, register) in record.registers.iter().enumerate() {
+            for (field, register) in record.registers.iter().take(form.fields).enumerate() {
                 words[begin + VALUES + field] = register.value;
                 words[begin + form.stamps() + field] = register.stamp;
             }

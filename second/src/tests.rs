@@ -14,6 +14,7 @@ mod lookup;
 mod losers;
 mod refusals;
 mod rules;
+mod shapes;
 mod shown;
 mod tables;
 

@@ -16,7 +16,8 @@ enum Demand {
 use Demand::{Decided, Follows};
 
 /// How many items must decide a rule of the redoing, of how much a merge changed, of which copy is
-/// ahead, of what is known, of the herd book, of losers that block nobody, or of twelve fields.
+/// ahead, of what is known, of what is turned, of the herd book, of losers that block nobody, or of
+/// twelve fields.
 const MANY: usize = 20;
 
 /// Every rule has its line here: a match without one does not compile.
@@ -132,6 +133,51 @@ fn demand(rule: Rule) -> Demand {
         | Rule::OtherChainsUnseen
         | Rule::AboveUsedUnseen
         | Rule::LostUnseen
+        | Rule::TurnedSchemaLength
+        | Rule::TurnedTableLength
+        | Rule::WrittenSchemaLength
+        | Rule::WrittenTableLength
+        | Rule::EqualCapacity
+        | Rule::TurnedSchemaBroken
+        | Rule::TurnedTableDamaged
+        | Rule::TurnedLengthFirst
+        | Rule::TurnedSchemaFirst
+        | Rule::TooManyFields
+        | Rule::ManyOfAny
+        | Rule::ManyUnused
+        | Rule::MoreThanEight
+        | Rule::ManyAfterTable
+        | Rule::ManyAfterSchema
+        | Rule::ManyAfterLength
+        | Rule::WrittenSchemaUnasked
+        | Rule::WrittenTableUnasked
+        | Rule::SameRelations
+        | Rule::SameFieldCounts
+        | Rule::SameKinds
+        | Rule::EighthKind
+        | Rule::SameFirstMask
+        | Rule::SameSecondMask
+        | Rule::SameReplica
+        | Rule::SameClock
+        | Rule::SameUsed
+        | Rule::SameFirsts
+        | Rule::SamePositions
+        | Rule::SameNext
+        | Rule::SameRelation
+        | Rule::SameLabel
+        | Rule::SameFlag
+        | Rule::SameValues
+        | Rule::EighthValue
+        | Rule::SameStamps
+        | Rule::EighthStamp
+        | Rule::LackingKinds
+        | Rule::LackingValues
+        | Rule::LackingStamps
+        | Rule::AboveUsedZero
+        | Rule::OldSchemaIgnored
+        | Rule::OldTableIgnored
+        | Rule::RefusalKeepsSchema
+        | Rule::RefusalKeepsTable
         | Rule::KindsInOrder
         | Rule::FieldsInOrder
         | Rule::GroupNumberIsKey
@@ -492,6 +538,104 @@ fn twelve_fields_are_decided_by_each_call() {
                 items.iter().filter(|(item, _)| item.call == *call).cloned().collect();
             let count = without(rule, || differences(&of_call));
             assert!(count >= MANY / 2, "{:?} {} {}", rule, call, count);
+        }
+    }
+}
+
+/// The rules of both calls that turn a schema and a table.
+const TURNED_BOTH_WAYS: [Rule; 35] = [
+    Rule::TurnedSchemaLength,
+    Rule::TurnedTableLength,
+    Rule::WrittenSchemaLength,
+    Rule::WrittenTableLength,
+    Rule::EqualCapacity,
+    Rule::TurnedSchemaBroken,
+    Rule::TurnedTableDamaged,
+    Rule::TurnedLengthFirst,
+    Rule::TurnedSchemaFirst,
+    Rule::WrittenSchemaUnasked,
+    Rule::WrittenTableUnasked,
+    Rule::SameRelations,
+    Rule::SameFieldCounts,
+    Rule::SameKinds,
+    Rule::EighthKind,
+    Rule::SameFirstMask,
+    Rule::SameSecondMask,
+    Rule::SameReplica,
+    Rule::SameClock,
+    Rule::SameUsed,
+    Rule::SameFirsts,
+    Rule::SamePositions,
+    Rule::SameNext,
+    Rule::SameRelation,
+    Rule::SameLabel,
+    Rule::SameFlag,
+    Rule::SameValues,
+    Rule::EighthValue,
+    Rule::SameStamps,
+    Rule::EighthStamp,
+    Rule::AboveUsedZero,
+    Rule::OldSchemaIgnored,
+    Rule::OldTableIgnored,
+    Rule::RefusalKeepsSchema,
+    Rule::RefusalKeepsTable,
+];
+
+/// A schema and a table that are turned are judged by the rules of their own form.
+const TURNED_BY_FORM: [Rule; 35] = [
+    Rule::SomeRelation,
+    Rule::MostRelations,
+    Rule::SomeField,
+    Rule::MostFields,
+    Rule::KnownKind,
+    Rule::AbortWithinRelations,
+    Rule::PropagationWithinRelations,
+    Rule::KindsAboveFields,
+    Rule::BlocksAboveRelations,
+    Rule::LastWordOfBlock,
+    Rule::MostKeyFields,
+    Rule::KeyWithinFields,
+    Rule::SomeReplica,
+    Rule::MostReplica,
+    Rule::ClockRange,
+    Rule::HeaderZero,
+    Rule::HeaderEnd,
+    Rule::RecordLabel,
+    Rule::Stamp,
+    Rule::FlagRange,
+    Rule::ValueUnderNone,
+    Rule::UsedWithinCapacity,
+    Rule::ChainOfRelation,
+    Rule::RisingLabels,
+    Rule::StrictlyRising,
+    Rule::OnAChain,
+    Rule::NoIndexAbove,
+    Rule::WordsAboveUsed,
+    Rule::UnusedValues,
+    Rule::UnusedStamps,
+    Rule::Reference,
+    Rule::ClockOverLabels,
+    Rule::ClockOverStamps,
+    Rule::ClockOverReferences,
+    Rule::ChainsAboveRelations,
+];
+
+/// Each rule decides both calls that turn, and each rule of schemas and tables the old form too.
+#[test]
+fn turns_are_decided_each_way() {
+    let items = single_items();
+    for call in [vectors::WIDEN, vectors::NARROW] {
+        let of_call: Vec<(Item, Outcome)> =
+            items.iter().filter(|(item, _)| item.call == call).cloned().collect();
+        for rule in TURNED_BOTH_WAYS {
+            let count = without(rule, || differences(&of_call));
+            assert!(count >= MANY, "{:?} {} {}", rule, call, count);
+        }
+        let least = if call == vectors::WIDEN { MANY } else { MANY / 2 };
+        for rule in TURNED_BY_FORM {
+            let count = without(rule, || differences(&of_call));
+            println!("{:?} {} {}", rule, call, count);
+            assert!(count >= least, "{:?} {} {}", rule, call, count);
         }
     }
 }

@@ -3,13 +3,13 @@
 use super::{marks_of, random_read};
 use crate::cases::{bytes_of, herd};
 use crate::label::Register;
-use crate::layout::{self, CAPACITY, HEADER, RECORD};
+use crate::layout::{self, CAPACITY, HEADER, OLD, RECORD};
 use crate::list::list;
 use crate::random::{self, Random, Shape};
 use crate::table::{Record, Table};
 use crate::{
-    compare, deletion, insertion, lookup, marks, merge, number, schema_check, start, table_check,
-    update, values, walk,
+    compare, deletion, insertion, lookup, marks, merge, narrow, number, schema_check, start,
+    table_check, update, values, walk, widen,
 };
 use std::collections::BTreeMap;
 
@@ -126,6 +126,9 @@ fn no_words_panic() {
         layout::table(2),
         layout::SCHEMA,
         layout::DELTA,
+        OLD.schema(),
+        OLD.table(1),
+        OLD.table(2),
     ];
     for _ in 0..50_000 {
         let words = |random: &mut Random| -> Vec<u64> {
@@ -147,6 +150,9 @@ fn no_words_panic() {
         let _ = values(&own, a);
         let _ = compare(&schema, &own, &other);
         let _ = lookup(&schema, &own, a, c);
+        let mut to_schema = words(&mut random);
+        let _ = widen(&other, &own, &mut to_schema, &mut written);
+        let _ = narrow(&schema, &own, &mut to_schema, &mut written);
         let _ = merge(&schema, &mut own, &other);
         let _ = insertion(&schema, &mut own, &mut written, a, &[b, c]);
         let _ = update(&schema, &mut own, &mut written, a, b, c);

@@ -32,6 +32,10 @@ mod schemas;
 mod sources;
 mod tables;
 mod treatments;
+mod turn_damage;
+mod turn_merges;
+mod turned;
+mod turns;
 
 pub use fleets::{begin as some_fleet, next as next_of_fleet};
 pub use sources::{called_table, random_edit};
@@ -60,7 +64,10 @@ fn more(items: &mut Items, random: &mut Random, call: u8, least: u64) {
     }
 }
 
-/// The items of a seed.
+/// Added to the seed for the items of F-8, which have their own random numbers.
+const TURNS: u64 = 8 << 32;
+
+/// The items of a seed. Those of F-8 follow all others, so that the others stay as they are.
 pub fn vectors(seed: u64) -> Vec<Item> {
     let mut random = Random::new(seed);
     let mut items = Items::default();
@@ -97,5 +104,9 @@ pub fn vectors(seed: u64) -> Vec<Item> {
     new_field_edits::new_field_edits(&mut items, &mut random);
     new_field_fleets::new_field_fleets(&mut items, &mut random);
     old_words::old_words(&mut items, &mut random);
+    let mut random = Random::new(seed.wrapping_add(TURNS));
+    turns::turns(&mut items, &mut random);
+    turn_damage::turn_damage(&mut items, &mut random);
+    turn_merges::turn_merges(&mut items, &mut random);
     items.into_items()
 }

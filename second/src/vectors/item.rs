@@ -2,7 +2,8 @@
 
 use crate::layout::FIELDS;
 
-/// A slice that a call is lent; THIRD is another table, a delta or marks.
+/// A slice that a call is lent; THIRD is another table, a delta or marks. A call that turns a schema
+/// and a table has the schema turned and the one written in SCHEMA, one behind the other.
 #[derive(Clone, Copy, Debug, PartialEq, Eq)]
 pub enum Slice {
     Schema,
@@ -42,7 +43,8 @@ pub const LISTS: &str = "vectors_lists";
 pub const EDITS: &str = "vectors_edits";
 pub const FLEETS: &str = "vectors_fleets";
 pub const BOOK: &str = "vectors_book";
-pub const PROGRAMS: [&str; 5] = [TABLES, LISTS, EDITS, FLEETS, BOOK];
+pub const TURNS: &str = "vectors_shapes";
+pub const PROGRAMS: [&str; 6] = [TABLES, LISTS, EDITS, FLEETS, BOOK, TURNS];
 
 const fn shape(
     name: &'static str,
@@ -87,9 +89,11 @@ pub const BOOK_STRIKE: u8 = 29;
 pub const BOOK_FIND: u8 = 30;
 pub const COMPARE: u8 = 31;
 pub const LOOKUP: u8 = 32;
+pub const WIDEN: u8 = 33;
+pub const NARROW: u8 = 34;
 
 /// The shape of each call, from call 1 on.
-pub const SHAPES: [Shape; 32] = [
+pub const SHAPES: [Shape; 34] = [
     shape("label_of", &[], 2, 1, &[], TABLES),
     shape("register_join", &[], 4, 3, &[], TABLES),
     shape("flag_join", &[], 2, 2, &[], TABLES),
@@ -122,10 +126,12 @@ pub const SHAPES: [Shape; 32] = [
     shape("book_find", &[TABLE], 1, 1, &[], BOOK),
     shape("compare", &[SCHEMA, TABLE, THIRD], 0, 1, &[], TABLES),
     shape("lookup", &[SCHEMA, TABLE], 2, 1, &[], TABLES),
+    shape("widen", &[SCHEMA, TABLE, THIRD], 1, 1, &[THIRD], TURNS),
+    shape("narrow", &[SCHEMA, TABLE, THIRD], 1, 1, &[THIRD], TURNS),
 ];
 
 /// The names of the categories, from category 1 on.
-pub const CATEGORIES: [&str; 121] = [
+pub const CATEGORIES: [&str; 135] = [
     "labels, registers and flags",
     "schemas at their limits",
     "schemas with one rule broken",
@@ -247,6 +253,20 @@ pub const CATEGORIES: [&str; 121] = [
     "old words: schemas of 97 words, deltas of 196",
     "old words: tables of a length that no new one has",
     "old words: tables of a length that a new one has",
+    "turned: tables made by calls and directly",
+    "turned: deltas of both forms",
+    "turned: old contents of the side written",
+    "turned: schemas and tables at their limits",
+    "turned: more than eight fields",
+    "turned: schemas with one rule broken",
+    "turned: headers and records with one rule broken",
+    "turned: chains",
+    "turned: one word changed",
+    "turned: wrong lengths and unequal capacities",
+    "turned: the order of the refusals",
+    "turned: capacities 0 and 4,096",
+    "turned: seven old records, as long as five new ones",
+    "turned: merges of old tables",
 ];
 
 pub fn shape_of(call: u8) -> Option<&'static Shape> {

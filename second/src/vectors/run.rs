@@ -1,5 +1,6 @@
 //! An item run on the second implementation.
 
+use super::digest::digest;
 use super::fleet::Fleet;
 use super::item::*;
 use crate::book;
@@ -8,8 +9,8 @@ use crate::label::{delete, join_flags, join_registers, label_of, redo, Register}
 use crate::layout::FIELDS;
 use crate::shown::given;
 use crate::{
-    compare, deletion, insertion, lookup, marks, merge, number, schema_check, start, table_check,
-    update, values, walk,
+    compare, deletion, insertion, lookup, marks, merge, narrow, number, schema_check, start,
+    table_check, update, values, walk, widen,
 };
 
 fn result(word: u64) -> Outcome {
@@ -114,6 +115,19 @@ fn run_book(item: &Item) -> Outcome {
     outcome(answer, results, vec![own, delta])
 }
 
+/// The schema turned and the one written stand in one slice; the digest of the latter comes back.
+fn run_turn(item: &Item) -> Outcome {
+    let s = &item.slices;
+    let (schema, written) = s[0].split_at(s[0].len().min(item.words[0] as usize));
+    let (mut written, mut table) = (written.to_vec(), s[2].clone());
+    let answer = match item.call {
+        WIDEN => widen(schema, &s[1], &mut written, &mut table),
+        _ => narrow(schema, &s[1], &mut written, &mut table),
+    };
+    let sum = written.iter().fold(0, |sum, word| digest(sum, *word));
+    outcome(number(&answer), vec![sum], vec![table])
+}
+
 /// Runs an item; the fleet is the state of the fleet items.
 pub fn run(fleet: &mut Fleet, item: &Item) -> Outcome {
     match item.call {
@@ -121,6 +135,7 @@ pub fn run(fleet: &mut Fleet, item: &Item) -> Outcome {
         INSERTION..=DELETION => run_edit(item),
         FLEET_BEGIN..=FLEET_WALK => fleet.run(item),
         BOOK_ENTER..=BOOK_FIND => run_book(item),
+        WIDEN | NARROW => run_turn(item),
         _ => run_table(item),
     }
 }

@@ -96,7 +96,7 @@ impl Line<'_> {
             Order::Falling => labels.reverse(),
             Order::Any => self.random.shuffle(&mut labels),
         }
-        let Relation { kinds, keys } = self.relation();
+        let Relation { kinds, keys, .. } = self.relation();
         let by_reference = keys.concat().into_iter().any(|field| kinds[field] != Kind::Plain);
         let count = if by_reference { self.length + 3 } else { 1 };
         self.targets = (0..count).map(|_| self.new_label()).collect();
@@ -247,7 +247,7 @@ impl Line<'_> {
 
     /// The first reference of a record in line that is in no key.
     pub fn free_reference(&self) -> Option<usize> {
-        let Relation { kinds, keys } = self.relation();
+        let Relation { kinds, keys, .. } = self.relation();
         let in_a_key = |field: usize| keys.iter().any(|key| key.contains(&field));
         (0..kinds.len()).find(|field| kinds[*field] != Kind::Plain && !in_a_key(*field))
     }
