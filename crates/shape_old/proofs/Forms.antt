@@ -1,14 +1,14 @@
 -- The old side judged, in the forms in which the functions ask for it.
 -- Assumes nothing.
-use Prim.Native.Nat.{ℕ, _+_, _*_, _-_, _≤_, _<_}
+use Prim.Native.Nat.{ℕ, _+_, _-_, _≤_, _<_}
 use mathlib.Core.Path.{_≡_, sym, _∙_, ap}
 use mathlib.Core.Bool.{Bool, true, false, _&&_}
 use mathlib.Core.List.{List}
 use native.Mathlib.Omega.{arith}
 use lib.Dec.{leb, ltb, eqb}
-use lib.ListN.{length, drop}
+use lib.ListN.{drop}
 use Rattle.crdt.specs.Labels.{largestCounter, isReplica}
-use Rattle.model.specs.Layout.{fields, mostRelations, mostRecords, headWords, firstWords, zeroWord, zeroWords, word, replicaAt, clockAt, usedAt, firstAt, labelAt}
+use Rattle.model.specs.Layout.{fields, mostRelations, mostRecords, firstWords, zeroWord, zeroWords, word, replicaAt, clockAt, usedAt, firstAt, labelAt}
 use Rattle.model.specs.Lists.{each, all-of}
 use Rattle.model.specs.Records.{labelSpan}
 use Rattle.model.specs.WellFormed.{headerRules, recordRules, countersRule, chainStep, restZero}
@@ -35,10 +35,6 @@ pub record Head (t : List ℕ) : Type 0 where
 module _ (t : List ℕ) (h : tableLengthIn oldFields t ≡ true) where
   abbrev T : List ℕ
   T = turnedTable oldFields fields t
-
-  pub old-inside : (i : ℕ) → 1 ≤ i → i ≤ capacityIn oldFields t → baseIn oldFields i + (headWords + 2 * oldFields) ≤ length t
-  unfolding baseIn
-  old-inside i a b = omega (arith, sized-in oldFields t h .size)
 
   pub header-is : (replica clock used capacity x : ℕ) (zeros : Bool) → replica ≡ replicaAt t → clock ≡ clockAt t → used ≡ usedAt t → capacity ≡ capacityIn oldFields t
       → x ≡ word t zeroWord → zeros ≡ each zeroWords (λ k. eqb (word t (firstWords + mostRelations + (k - 1))) 0)

@@ -4,12 +4,13 @@ ghost use mathlib.Core.Bool.{true, false, _&&_};
 ghost use Prim.Native.Nat.{_+_, _≤_, _^_};
 ghost use lib.ListN.{length};
 ghost use Rattle.crdt.specs.Labels.{largestCounter};
-ghost use Rattle.model.specs.Layout.{fields, mostRelations, mostRecords, headWords, schemaWords, recordWords, word, relations, clockAt, usedAt};
+ghost use Rattle.model.specs.Layout.{fields, mostRelations, mostRecords, blockWords, schemaWords, word, relations, clockAt, usedAt};
 ghost use Rattle.model.specs.Lists.{each};
 ghost use Rattle.model.specs.Schemas.{broken};
 ghost use Rattle.model.specs.WellFormed.{headerRules, recordRules, countersRule, chainStep, chainsRise, onChain, restZero, wellFormed};
 ghost use Rattle.model.specs.Lookup.{readRule};
-ghost use Rattle.model.specs.Shapes.{oldFields, baseIn, capacityIn, nextIn, relationIn, labelIn, schemaLengthIn, tableLengthIn, turnedRecord, turnedTable};
+ghost use Rattle.model.specs.Shapes.{oldFields, recordWordsIn, baseIn, capacityIn, nextIn, relationIn, labelIn, schemaLengthIn, tableLengthIn, turnedRecord, turnedTable};
+ghost use Rattle.table_rules.specs.Rows.{fieldsGood, rowGood};
 ghost use Rattle.table.specs.Chains.{walkedChain};
 use crdt::Label;
 use table::Walked;
@@ -37,7 +38,7 @@ fn base(i: usize) -> usize
 
 // Word `k` of record `i`.
 fn record_word(t: &[u64], i: usize, k: usize) -> u64
-    requires { ⌜ k ≤ headWords ⌝ }
+    requires { ⌜ k ≤ recordWordsIn oldFields ⌝ }
     ensures { λ x. ⌜ x ≡ word (now (t .entry)) (baseIn oldFields i + k) ⌝ }
 {
     if LARGEST_INDEX < i {
@@ -92,12 +93,44 @@ pub fn table_length(t: &[u64]) -> bool
     ((t.len() - layout::HEADER_WORDS) % OLD_RECORD_WORDS == 0) & most
 }
 
-// The row that record `i` is turned into.
-fn widen_row(t: &[u64], i: usize, row: &mut [u64])
-    requires { ⌜ (length (now row) ≡ recordWords) × (tableLengthIn oldFields (now t) ≡ true) × (1 ≤ i) × (i ≤ capacityIn oldFields (now t)) ⌝ }
-    ensures { λ _. ⌜ now (row .exit) ≡ turnedRecord oldFields fields (now (t .entry)) i ⌝ }
+// The fields of record `i`, by the words of its relation's block in the turned schema. The fields that the old form lacks are zero, and good.
+fn fields_good(clock: u64, block: &[u64], t: &[u64], i: usize) -> bool
+    requires { ⌜ (clock ≤ largestCounter) × (length (now block) ≡ blockWords) ⌝ }
+    ensures { λ r. ⌜ r ≡ fieldsGood clock (now (block .entry)) (turnedRecord oldFields fields (now (t .entry)) i) ⌝ }
 {
-    shape_turn::turn_row(t, base(i), OLD_FIELDS, row, layout::FIELDS);
+    let count = block[0];
+    let mut j: usize = 0;
+    while j < OLD_FIELDS {
+        let value = record_word(t, i, layout::HEAD_WORDS + j);
+        let stamp = record_word(t, i, layout::HEAD_WORDS + OLD_FIELDS + j);
+        j += 1;
+        if !table_rules::field_placed(clock, count, j as u64, block[j], value, stamp) {
+            return false;
+        }
+    }
+    true
+}
+
+// Record `i` by its own words, as the row that it is turned into.
+fn row_good(schema: &[u64], clock: u64, t: &[u64], i: usize) -> bool
+    requires { ⌜ (clock ≤ largestCounter) × (length (now schema) ≡ schemaWords) × (relations (now schema) ≤ mostRelations) ⌝ }
+    ensures { λ r. ⌜ r ≡ rowGood (now (schema .entry)) clock (turnedRecord oldFields fields (now (t .entry)) i) ⌝ }
+{
+    let relation = relation_at(t, i);
+    if relation < 1 {
+        return false;
+    }
+    if layout::relations(schema) < relation {
+        return false;
+    }
+    if !table_rules::label_under(clock, label_at(t, i)) {
+        return false;
+    }
+    if crdt::LARGEST_FLAG < record_word(t, i, layout::FLAG_WORD) {
+        return false;
+    }
+    let b = layout::block(relation);
+    fields_good(clock, &schema[b..b + layout::BLOCK_WORDS], t, i)
 }
 
 // The own words of record `i`, and its counters under the clock. The schema is the turned one.
@@ -107,9 +140,7 @@ fn record_good(schema: &[u64], t: &[u64], i: usize) -> bool
     ensures { λ r. ⌜ r ≡ (recordRules (now (schema .entry)) (turnedTable oldFields fields (now (t .entry))) i
         && countersRule (now (schema .entry)) (turnedTable oldFields fields (now (t .entry))) i) ⌝ }
 {
-    let mut row = [0u64; layout::RECORD_WORDS];
-    widen_row(t, i, &mut row);
-    table_rules::row_good(schema, layout::clock(t), &row)
+    row_good(schema, layout::clock(t), t, i)
 }
 
 // One step of the chain of relation `r`, onto record `i` from a label.

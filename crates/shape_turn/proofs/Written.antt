@@ -78,7 +78,7 @@ row-at : (v w : ℕ) (t : List ℕ) (i : ℕ) → rowTurned v w t (baseIn v i) �
 unfolding rowTurned turnedRecord fieldsAfter nextIn relationIn labelIn flagIn valueIn stampIn
 row-at v w t i = refl
 
-pub row-of : (v w : ℕ) (t : List ℕ) (i p : ℕ) → p ≡ baseIn v i → rowTurned v w t p ≡ turnedRecord v w t i
+row-of : (v w : ℕ) (t : List ℕ) (i p : ℕ) → p ≡ baseIn v i → rowTurned v w t p ≡ turnedRecord v w t i
 row-of v w t i p e = ap (rowTurned v w t) e ∙ row-at v w t i
 
 row-is : (v w : ℕ) (t : List ℕ) (i p : ℕ) → p ≡ headerWords + (headWords + 2 * v) * i → rowTurned v w t p ≡ turnedRecord v w t (i + 1)

@@ -45,7 +45,7 @@ fn turn_fields(from: &[u64], p: usize, v: usize, to: &mut [u64], b: usize, w: us
 }
 
 // The row that the record at word `p` is turned into.
-pub fn turn_row(t: &[u64], p: usize, v: usize, row: &mut [u64], w: usize)
+fn turn_row(t: &[u64], p: usize, v: usize, row: &mut [u64], w: usize)
     requires { ⌜ (v ≤ fields) × (w ≤ fields) × (p + (headWords + 2 * v) ≤ length (now t)) × (length (now row) ≡ headWords + 2 * w) ⌝ }
     ensures { λ _. ⌜ now (row .exit) ≡ rowTurned v w (now (t .entry)) p ⌝ }
 {

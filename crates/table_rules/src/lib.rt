@@ -69,7 +69,7 @@ pub fn empty_above(schema: &[u64], t: &[u64]) -> bool
 }
 
 // Whether a number is a label whose counter is none above the clock.
-fn label_under(clock: u64, x: u64) -> bool
+pub fn label_under(clock: u64, x: u64) -> bool
     requires { ⌜ clock ≤ largestCounter ⌝ }
     ensures { λ r. ⌜ r ≡ labelUnder clock x ⌝ }
 {
@@ -98,7 +98,7 @@ fn field_good(clock: u64, kind: u64, value: u64, stamp: u64) -> bool
 }
 
 // Field `j`, where there are `count` fields: zeros above them.
-fn field_placed(clock: u64, count: u64, j: u64, kind: u64, value: u64, stamp: u64) -> bool
+pub fn field_placed(clock: u64, count: u64, j: u64, kind: u64, value: u64, stamp: u64) -> bool
     requires { ⌜ clock ≤ largestCounter ⌝ }
     ensures { λ r. ⌜ r ≡ fieldPlaced clock count j kind value stamp ⌝ }
 {
@@ -146,7 +146,7 @@ fn fields_good(clock: u64, block: &[u64], row: &[u64]) -> bool
 }
 
 // A record by its own words.
-pub fn row_good(schema: &[u64], clock: u64, row: &[u64]) -> bool
+fn row_good(schema: &[u64], clock: u64, row: &[u64]) -> bool
     requires { ⌜ (clock ≤ largestCounter) × (length (now schema) ≡ schemaWords) × (relations (now schema) ≤ mostRelations) × (length (now row) ≡ recordWords) ⌝ }
     ensures { λ r. ⌜ r ≡ rowGood (now (schema .entry)) clock (now (row .entry)) ⌝ }
 {
