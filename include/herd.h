@@ -10,6 +10,7 @@
  *   4. Mark the shown records (herd_marks) and read them in order (herd_walk, herd_values).
  *   5. Of two copies, ask which one must take in the other (herd_compare).
  *   6. Ask whether a record is known, by relation and label, and for its index (herd_lookup).
+ *   7. Turn tables and deltas of a robot sealed with version 3.1.0 or before into those of this version, and back (herd_widen, herd_narrow).
  *
  * A record is complete when all its fields have arrived. The complete records that are not deleted stand, and so do the complete ones that
  * standing records reference by abort. From the oldest on, a standing record is kept unless it has a key of an older one that is kept: one
@@ -26,7 +27,8 @@
  *   - A slice is a pointer and then its length, in words, or in bytes for marks. The pointer is not null, also with length 0; it is
  *     aligned for its type, and the memory is that long. Any length and any contents may be lent. So as not to be refused, a schema
  *     has HERD_SCHEMA_WORDS words, a table HERD_TABLE_WORDS(N) with N from 0 to HERD_MOST_RECORDS, a delta HERD_DELTA_WORDS, and
- *     there are N marks; `Needs` below tells what else a call must be lent.
+ *     there are N marks; an old schema has HERD_OLD_SCHEMA_WORDS, an old table HERD_OLD_TABLE_WORDS(N). `Needs` below tells what else a
+ *     call must be lent.
  *   - What a call writes (a parameter without const) must overlap no other argument of the call. What is only read may overlap.
  *     To merge a table with itself, lend a copy; a table may be compared with itself.
  *   - Nothing else writes the memory during the call. Calls that share no written memory may run at the same time.
@@ -48,11 +50,11 @@ extern "C" {
 #endif
 
 /*
- * The version of this header, as one number: 4.0.0 is 40000. A change of a parameter list, of a layout figure or of what a call answers
+ * The version of this header, as one number: 4.1.0 is 40100. A change of a parameter list, of a layout figure or of what a call answers
  * raises the major part, an addition the minor part, anything else the patch. CHANGELOG.md tells what changed.
  */
 #define HERD_VERSION_MAJOR 4
-#define HERD_VERSION_MINOR 0
+#define HERD_VERSION_MINOR 1
 #define HERD_VERSION_PATCH 0
 #define HERD_VERSION (HERD_VERSION_MAJOR * 10000 + HERD_VERSION_MINOR * 100 + HERD_VERSION_PATCH)
 
@@ -73,7 +75,7 @@ enum herd_answer {
     HERD_DONE = 0,
     HERD_LENGTH_OR_INDEX = 1,       /* wrong length of a slice other than an insertion's values; index 0, above used or above N */
     HERD_SCHEMA_BROKEN = 2,         /* schema broken */
-    HERD_OWN_NOT_WELL_FORMED = 3,   /* own table not well-formed; in a comparison the first table, in a lookup what it reads */
+    HERD_OWN_NOT_WELL_FORMED = 3,   /* own table not well-formed; the first of a comparison, what a lookup reads, the table turned */
     HERD_OTHER_NOT_WELL_FORMED = 4, /* other table not well-formed; in a comparison the second table */
     HERD_RELATION_OR_REPLICA = 5,   /* relation not 1 to R, or replica not 1 to 255 at start */
     HERD_NOT_SHOWN = 6,             /* record to edit is not shown */
@@ -83,7 +85,8 @@ enum herd_answer {
     HERD_REFERENCED = 10,           /* deletion: another standing record references it by abort */
     HERD_FULL = 11,                 /* merge needs more than N distinct records; insertion with used = N */
     HERD_CLOCK_AT_END = 12,         /* insertion or update with clock 2^40 - 1 */
-    HERD_FLAG_AT_END = 13           /* a flag to be redone is 65,535 */
+    HERD_FLAG_AT_END = 13,          /* a flag to be redone is 65,535 */
+    HERD_TOO_MANY_FIELDS = 14       /* a schema to be turned back has a relation with more than eight fields */
 };
 
 /* What a comparison says of two tables, and what is to be merged so that both have the same contents. */
@@ -187,9 +190,10 @@ typedef uint64_t herd_schema[HERD_SCHEMA_WORDS];
  *
  *   uint64_t table[HERD_TABLE_WORDS(200)];
  *
- * Up to version 3.1.0 there were eight fields and 16 + 20N words. Where N is a multiple of 7 that is the length of a table of this version
- * too, which is then judged by its words, and an empty one is well-formed. So lengths do not tell the two apart: keep them apart by the
- * version that wrote them.
+ * Up to version 3.1.0 there were eight fields and 16 + 20N words, the old form below. The new robot merges old tables only converted
+ * (herd_widen). A length does not tell the form: 7 old records are as long as 5 of this version. Where N is a multiple of 7 an old table
+ * has a length of this version, it is then judged by its words, and an empty one is well-formed. So a file or message carries its version
+ * beside it.
  */
 #define HERD_HEADER_WORDS 16
 #define HERD_HEAD_WORDS 4
@@ -219,6 +223,18 @@ typedef uint64_t herd_schema[HERD_SCHEMA_WORDS];
 typedef uint64_t herd_delta[HERD_DELTA_WORDS];
 
 /*
+ * The old form, of versions up to 3.1.0, for herd_widen and herd_narrow. It has eight fields, and but for their number it is the form
+ * above: a schema of 97 words with blocks of 12, a table of 16 + 20N words, a delta of nine records and 196 words.
+ */
+#define HERD_OLD_FIELDS 8
+#define HERD_OLD_BLOCK_WORDS (HERD_BLOCK_WORDS - HERD_FIELDS + HERD_OLD_FIELDS)
+#define HERD_OLD_SCHEMA_WORDS (1 + HERD_MOST_RELATIONS * HERD_OLD_BLOCK_WORDS)
+#define HERD_OLD_RECORD_WORDS (HERD_HEAD_WORDS + 2 * HERD_OLD_FIELDS)
+#define HERD_OLD_TABLE_WORDS(records) (HERD_HEADER_WORDS + HERD_OLD_RECORD_WORDS * (size_t)(records))
+#define HERD_OLD_DELTA_RECORDS (HERD_OLD_FIELDS + 1)
+#define HERD_OLD_DELTA_WORDS (HERD_HEADER_WORDS + HERD_OLD_RECORD_WORDS * HERD_OLD_DELTA_RECORDS)
+
+/*
  * The stack that each call needs at most, in bytes, without what interrupts, signals and lazy dynamic linking take. Measured by
  * tools/stack on tables of 4,096 records, which fails if a call passes 160 KiB; the calls do not recurse, and their arrays have fixed
  * sizes, so that a small table needs as much. Of an edit and of the marks 96 KiB are the resolved references, two bytes for each field of
@@ -232,6 +248,8 @@ typedef uint64_t herd_delta[HERD_DELTA_WORDS];
 #define HERD_STACK_MERGE 512
 #define HERD_STACK_COMPARE 512
 #define HERD_STACK_LOOKUP 320
+#define HERD_STACK_WIDEN 1408
+#define HERD_STACK_NARROW 448
 #define HERD_STACK_INSERT 152000
 #define HERD_STACK_UPDATE 152064
 #define HERD_STACK_DELETE 151936
@@ -308,6 +326,35 @@ HERD_CALL uint64_t herd_compare(const uint64_t *schema, size_t schema_words, con
  */
 HERD_CALL uint64_t herd_lookup(const uint64_t *schema, size_t schema_words, const uint64_t *table, size_t table_words, size_t relation,
                                herd_label label, uint64_t *index);
+
+/*
+ * Turns an old schema and an old table into a schema and a table of this version, with the same N. R, each relation's field count, kinds
+ * and masks, the header, and at each position the record's next, relation, label, flag, values and stamps stay the same; what the old
+ * form lacks is 0. herd_narrow gives the old words back. An old delta becomes a table with N = HERD_OLD_DELTA_RECORDS, which is merged
+ * as one. What is written is merged under the own schema: compare the schema written with that first.
+ * The replica number stays the same too: of an old table and the one that it was turned into only one is edited further, or a label is
+ * handed out twice.
+ * Needs: an old schema that is not broken and an old table that is well-formed, by the rules for eight fields; room for the schema and
+ * for a table with the same N. Of what is written only the lengths are asked, and old contents are ignored.
+ * Answers: 0, 1, 2, 3. Here 1 is also for N that differ, 2 is about the old schema and 3 about the old table.
+ * Changes: schema, table.
+ */
+HERD_CALL uint64_t herd_widen(const uint64_t *old_schema, size_t old_schema_words, const uint64_t *old_table, size_t old_table_words,
+                              uint64_t *schema, size_t schema_words, uint64_t *table, size_t table_words);
+
+/*
+ * Turns a schema and a table of this version back into old ones, with the same N, for a sealed robot to read. The words that herd_widen
+ * keeps stay the same, and it gives the schema and the table back. A delta becomes an old table with N = HERD_DELTA_RECORDS, which is no
+ * old delta; cut behind its used records first, to HERD_TABLE_WORDS(used), it becomes a shorter one.
+ * The old table holds the same records. The list of a sealed robot may differ all the same: before 3.0.0 a record that is not kept hid
+ * others too.
+ * Needs: a schema of which no relation has more than HERD_OLD_FIELDS fields, and a table under it; room for the old schema and for an old
+ * table with the same N. Of what is written only the lengths are asked, and old contents are ignored.
+ * Answers: 0, 1, 2, 3, 14. Here 1 is also for N that differ, 2 is about the schema and 3 about the table that are turned.
+ * Changes: old_schema, old_table.
+ */
+HERD_CALL uint64_t herd_narrow(const uint64_t *schema, size_t schema_words, const uint64_t *table, size_t table_words,
+                               uint64_t *old_schema, size_t old_schema_words, uint64_t *old_table, size_t old_table_words);
 
 /*
  * Inserts a record, at index used + 1. Its label is the clock + 1 with the own replica number; the clock rises by 1.
@@ -404,6 +451,8 @@ static inline const char *herd_answer_text(uint64_t answer)
         return "insertion or update with clock 2^40 - 1";
     case HERD_FLAG_AT_END:
         return "a flag to be redone is 65,535";
+    case HERD_TOO_MANY_FIELDS:
+        return "a schema to be turned back has a relation with more than eight fields";
     default:
         return "no answer of this version";
     }

@@ -32,7 +32,12 @@ enum { GROUPS = 64, PENS = 8, COWS = 1024 };
 /* The last group, pen and cow. */
 enum { LAST_GROUP = GROUPS, LAST_PEN = LAST_GROUP + PENS, LAST_COW = LAST_PEN + COWS };
 
+enum { OLD_WORDS = HERD_OLD_TABLE_WORDS(HERD_MOST_RECORDS) };
+
 static uint64_t own[WORDS], other[WORDS];
+/* What is turned back, and the schema that it is turned into again; the table of that is the other one. */
+static uint64_t old_schema[HERD_OLD_SCHEMA_WORDS], old_table[OLD_WORDS];
+static herd_schema turned;
 static herd_delta delta;
 static uint8_t marks[N];
 static uint64_t relation, values[HERD_FIELDS], value_count, record, field, value, place;
@@ -62,13 +67,14 @@ static void chain(uint64_t *table, uint64_t *last, uint64_t of, size_t index)
     last[of] = index;
 }
 
-static void finish_schema(void)
+/* The schema with so many fields of a pen. */
+static void finish_schema(size_t fields)
 {
     uint64_t *block = schema + HERD_BLOCK(PEN);
     size_t at;
-    block[HERD_COUNT_WORD] = HERD_FIELDS;
+    block[HERD_COUNT_WORD] = fields;
     for (at = 0; at < HERD_FIELDS; at++)
-        block[HERD_KIND_WORDS + at] = HERD_ABORT(GROUP);
+        block[HERD_KIND_WORDS + at] = at < fields ? HERD_ABORT(GROUP) : 0;
 }
 
 /* For what is made here no call may refuse. */
@@ -200,6 +206,16 @@ static void call_lookup(void)
     answer = herd_lookup(schema, HERD_SCHEMA_WORDS, own, WORDS, relation, label, &given);
 }
 
+static void call_widen(void)
+{
+    answer = herd_widen(old_schema, HERD_OLD_SCHEMA_WORDS, old_table, OLD_WORDS, turned, HERD_SCHEMA_WORDS, other, WORDS);
+}
+
+static void call_narrow(void)
+{
+    answer = herd_narrow(schema, HERD_SCHEMA_WORDS, own, WORDS, old_schema, HERD_OLD_SCHEMA_WORDS, old_table, OLD_WORDS);
+}
+
 static void call_insert(void)
 {
     answer = herd_insert(schema, HERD_SCHEMA_WORDS, own, WORDS, delta, HERD_DELTA_WORDS, relation, values, value_count, &label);
@@ -296,6 +312,8 @@ static struct measured calls[] = {
     {"herd_merge", call_merge, HERD_STACK_MERGE, 0},
     {"herd_compare", call_compare, HERD_STACK_COMPARE, 0},
     {"herd_lookup", call_lookup, HERD_STACK_LOOKUP, 0},
+    {"herd_widen", call_widen, HERD_STACK_WIDEN, 0},
+    {"herd_narrow", call_narrow, HERD_STACK_NARROW, 0},
     {"herd_insert", call_insert, HERD_STACK_INSERT, 0},
     {"herd_update", call_update, HERD_STACK_UPDATE, 0},
     {"herd_delete", call_delete, HERD_STACK_DELETE, 0},
@@ -438,6 +456,27 @@ static void measure_lookups(void)
     measure(call_lookup, HERD_OWN_NOT_WELL_FORMED);
 }
 
+/* Pens have as many fields as the old form has, and then too many. Afterwards the schema is as it was. */
+static void measure_turnings(void)
+{
+    finish_schema(HERD_OLD_FIELDS);
+    fill(own, N, 0, 1);
+    measure(call_narrow, HERD_DONE);
+    measure(call_widen, HERD_DONE);
+    if (memcmp(turned, schema, sizeof turned) != 0 || memcmp(other, own, sizeof own) != 0) {
+        fprintf(stderr, "stack: herd_narrow and herd_widen gave other words\n");
+        exit(2);
+    }
+    old_table[HERD_OLD_TABLE_WORDS(N - 1) + HERD_NEXT_WORD] = 1;
+    measure(call_widen, HERD_OWN_NOT_WELL_FORMED);
+    old_schema[0] = 0;
+    measure(call_widen, HERD_SCHEMA_BROKEN);
+    finish_schema(HERD_FIELDS);
+    measure(call_narrow, HERD_TOO_MANY_FIELDS);
+    own[HERD_RECORD(N) + HERD_NEXT_WORD] = 1;
+    measure(call_narrow, HERD_OWN_NOT_WELL_FORMED);
+}
+
 static void measure_edits(void)
 {
     size_t at;
@@ -565,11 +604,12 @@ int main(int count, char **arguments)
     size_t at, most = 0, most_of_book = 0;
     int good = 1;
     (void)arguments;
-    finish_schema();
+    finish_schema(HERD_FIELDS);
     measure_reads();
     measure_merges();
     measure_compares();
     measure_lookups();
+    measure_turnings();
     measure_edits();
     measure_book();
     for (at = 0; at < CALLS; at++) {

@@ -9,8 +9,9 @@ use herd::layout::{
     record_word, CLOCK_WORD, DELTA_WORDS, FIELDS, FIRST_WORDS, FLAG_WORD, HEAD_WORDS, LABEL_WORD,
     MOST_KEY_FIELDS, MOST_RECORDS, NEXT_WORD, RELATION_WORD, REPLICA_WORD, USED_WORD,
 };
-use herd::{book, raw, Compared, Label};
+use herd::{book, old, raw, Compared, Label};
 use second::random::Random;
+use second::Answer;
 use std::hint::black_box;
 use std::time::Instant;
 use tables::Subject;
@@ -320,6 +321,55 @@ fn all_lookups(
     }
     lines.push(lookups(LAST, shorts, tables::SHORT, last_label));
     lines
+}
+
+/// A call that turns a schema and a table into two others.
+type Turning<T> = fn(&[u64], &[u64], &mut [u64], &mut [u64]) -> T;
+
+/// The schema and the full table of a subject in the old form.
+fn old_form(x: &Subject, size: usize) -> [Vec<u64>; 2] {
+    let (mut schema, mut table) = (vec![0; old::SCHEMA_WORDS], vec![0; old::table_words(size)]);
+    assert_eq!(raw::narrow(&x.schema, &x.full, &mut schema, &mut table), 0);
+    [schema, table]
+}
+
+/// A full table turned from one form, by the place of old and new, into the other; the plain figure is the table check of the new table
+/// and a copy of both, timed in turn with the turning.
+fn turnings(
+    call: &'static str,
+    subjects: &[Subject],
+    from: usize,
+    library: Turning<u64>,
+    second: Turning<Answer<()>>,
+) -> Line {
+    line(call, "check + copy of both", subjects, |x, size| {
+        let forms = [old_form(x, size), [x.schema.clone(), x.full.clone()]];
+        let ([schema, table], written) = (&forms[from], &forms[1 - from]);
+        let stale = || written.each_ref().map(|words| vec![7u64; words.len()]);
+        let [mut to_schema, mut to_table] = stale();
+        assert_eq!(library(schema, table, &mut to_schema, &mut to_table), 0);
+        assert_eq!([to_schema, to_table], *written);
+        let (spent, plain) = in_turn(
+            5 * times(size),
+            || (stale(), forms.each_ref().map(|[_, table]| table.clone())),
+            |([s, t], _)| assert_eq!(library(black_box(schema), black_box(table), s, t), 0),
+            |(_, copies)| {
+                assert_eq!(raw::table_check(&x.schema, black_box(&x.full)), 0);
+                for (to, [_, from]) in copies.iter_mut().zip(&forms) {
+                    black_box(to).copy_from_slice(black_box(from));
+                }
+            },
+        );
+        let seconds = timed(12, stale, |[s, t]| assert!(second(schema, table, s, t).is_ok()));
+        (spent, seconds, plain)
+    })
+}
+
+/// Tables of at most eight fields, turned both ways.
+fn all_turnings(all: [&[Subject]; 3]) -> Vec<Line> {
+    let widened = all.map(|of| turnings("widen", of, 0, raw::widen, second::widen));
+    let narrowed = all.map(|of| turnings("narrow", of, 1, raw::narrow, second::narrow));
+    widened.into_iter().chain(narrowed).collect()
 }
 
 fn marks(subjects: &[Subject]) -> Line {
@@ -729,6 +779,7 @@ fn main() {
     );
     lines.push(compares("compare, neither", &barns, shared, Compared::Neither));
     lines.extend(all_lookups(&barns, [&keys, &buckets, &chains], &shorts));
+    lines.extend(all_turnings([&barns, &keys, &chains]));
     lines.extend([&barns, &keys, &buckets, &chains, &boths].map(|subjects| marks(subjects)));
     lines.extend([&barns, &keys, &buckets].map(|subjects| walks(subjects)));
     lines.push(values(&barns));

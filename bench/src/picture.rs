@@ -4,12 +4,13 @@
 use crate::{grouped, machine, multiple, time, Line};
 
 /// The panels: a title, and the calls that it shows.
-const PANELS: [(&str, &[&str]); 10] = [
+const PANELS: [(&str, &[&str]); 11] = [
     ("Table check, schema check", &["table check", "schema check"]),
     ("One step of the walk, start, values", &["walk, one step", "start", "values"]),
     ("Merge", &["merge", "merge, every flag"]),
     ("Comparison", &["compare, alike", "compare, neither"]),
     ("Lookup of a record", &["lookup, first label", "lookup, last label", "lookup, no such label"]),
+    ("Between old and new tables", &["widen", "narrow"]),
     ("Marks", &["marks"]),
     ("Insertion", &["insertion"]),
     ("Update, deletion", &["update", "deletion"]),

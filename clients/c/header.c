@@ -59,10 +59,10 @@ static void old_form(void)
 static void texts(void)
 {
     uint64_t left, right;
-    for (left = HERD_DONE; left <= HERD_FLAG_AT_END; left++)
-        for (right = left + 1; right <= HERD_FLAG_AT_END + 1; right++)
+    for (left = HERD_DONE; left <= HERD_TOO_MANY_FIELDS; left++)
+        for (right = left + 1; right <= HERD_TOO_MANY_FIELDS + 1; right++)
             expect(strcmp(herd_answer_text(left), herd_answer_text(right)) != 0, "each answer has a text of its own");
-    expect(strcmp(herd_answer_text(UINT64_MAX), herd_answer_text(HERD_FLAG_AT_END + 1)) == 0, "numbers that are no answers have one text");
+    expect(strcmp(herd_answer_text(UINT64_MAX), herd_answer_text(HERD_TOO_MANY_FIELDS + 1)) == 0, "numbers that are no answers have one text");
     for (left = HERD_ALIKE; left <= HERD_NEITHER; left++)
         for (right = left + 1; right <= HERD_NEITHER + 1; right++)
             expect(strcmp(herd_verdict_text(left), herd_verdict_text(right)) != 0, "each verdict has a text of its own");
@@ -88,7 +88,7 @@ int main(int count, char **arguments)
     uint64_t answer, verdict;
     (void)arguments;
     if (count > 1) {
-        for (answer = 1; answer <= HERD_FLAG_AT_END; answer++)
+        for (answer = 1; answer <= HERD_TOO_MANY_FIELDS; answer++)
             printf("%" PRIu64 " %s\n", answer, herd_answer_text(answer));
         for (verdict = HERD_ALIKE; verdict <= HERD_NEITHER; verdict++)
             printf("%" PRIu64 " %s\n", verdict, herd_verdict_text(verdict));

@@ -1,6 +1,6 @@
 /*
  * What a caller must know to lose nothing, tested with the herd book: labels handed out twice, words of two tables in one file, a loser put
- * right, a full table, a delta cut and sent on, and a journal of deltas. Run by tools/clients.
+ * right, a full table, a delta cut and sent on, tables of a sealed robot, and a journal of deltas. Run by tools/clients.
  */
 #include <stdio.h>
 #include <string.h>
@@ -262,6 +262,35 @@ static void cut_and_sent_on(void)
     expect(verdict(larger, LARGER, robot, WORDS) == HERD_SECOND_BEHIND, "and has all that the first has");
 }
 
+/* A sealed robot's table: widened and edited on both sides it hands out a label twice, and merged it does not. */
+static void sealed_robot(void)
+{
+    static uint64_t old_schema[HERD_OLD_SCHEMA_WORDS], old[HERD_OLD_TABLE_WORDS(N)], sent[HERD_OLD_TABLE_WORDS(1)];
+    static herd_schema schema;
+    uint64_t seven[HERD_OLD_TABLE_WORDS(7)] = {1}, one[HERD_TABLE_WORDS(1)];
+    herd_label cow;
+    start();
+    enter_cow(robot, 40, 7, HERD_NONE);
+    done(herd_narrow(BOOK, robot, WORDS, old_schema, HERD_OLD_SCHEMA_WORDS, old, HERD_OLD_TABLE_WORDS(N)), "a table is narrowed");
+    done(herd_widen(old_schema, HERD_OLD_SCHEMA_WORDS, old, HERD_OLD_TABLE_WORDS(N), schema, HERD_SCHEMA_WORDS, second, WORDS),
+         "and widened on the new robot");
+    expect(memcmp(robot, second, sizeof robot) == 0 && memcmp(schema, HERDBOOK_SCHEMA, sizeof schema) == 0, "nothing is lost");
+    cow = enter_cow(robot, 41, 8, HERD_NONE);
+    expect(enter_cow(second, 42, 9, HERD_NONE) == cow, "edited on both sides it hands out one label for two cows");
+    expect(take_in(office, old, HERD_OLD_TABLE_WORDS(N)) == HERD_LENGTH_OR_INDEX, "an old table is not merged as it is");
+    done(take_in(office, robot, WORDS), "the office takes in the sealed robot's table, widened");
+    expect(enter_cow(office, 42, 9, HERD_NONE) != cow, "and hands out labels of its own");
+
+    /* The office's delta, cut behind its record, for the sealed robot. */
+    done(herd_narrow(BOOK, delta, HERD_TABLE_WORDS(1), old_schema, HERD_OLD_SCHEMA_WORDS, sent, HERD_OLD_TABLE_WORDS(1)),
+         "a delta is cut and narrowed");
+    done(herd_widen(old_schema, HERD_OLD_SCHEMA_WORDS, sent, HERD_OLD_TABLE_WORDS(1), schema, HERD_SCHEMA_WORDS, one, HERD_TABLE_WORDS(1)),
+         "and widened again");
+    done(take_in(robot, one, HERD_TABLE_WORDS(1)), "it is merged");
+    expect(verdict(robot, WORDS, office, WORDS) == HERD_ALIKE, "and the tables are alike");
+    done(herd_table_check(BOOK, seven, HERD_OLD_TABLE_WORDS(7)), "an empty table of seven old records is one of five");
+}
+
 /* A journal: of each delta the number of bytes, a check sum, and the words up to the last used record. */
 enum { HEAD = 8, JOURNAL = 4096 };
 static uint8_t journal[JOURNAL];
@@ -353,6 +382,7 @@ int main(void)
     loser_put_right();
     full_table();
     cut_and_sent_on();
+    sealed_robot();
     journal_recovered();
     return failed;
 }

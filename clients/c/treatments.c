@@ -204,19 +204,20 @@ static void pens(void)
 /* The lengths with eight fields: a schema of 97 words, a delta of 196, a table of 16 + 20N. */
 static void lengths(void)
 {
-    enum { OLD_SCHEMA = 97, OLD_RECORD = 20, OLD_DELTA = 196, SEVEN = HERD_HEADER_WORDS + 7 * OLD_RECORD };
+    enum { SEVEN = HERD_OLD_TABLE_WORDS(7) };
     const uint64_t name = 12;
     herd_label label;
     uint64_t changed, table[SEVEN] = {0};
     size_t records;
     start();
-    expect(herd_schema_check(SCHEMA, OLD_SCHEMA) == HERD_LENGTH_OR_INDEX, "a schema of 97 words is refused");
-    expect(herd_insert(SCHEMA, HERD_SCHEMA_WORDS, robot, WORDS, delta, OLD_DELTA, GROUP, &name, 1, &label) == HERD_LENGTH_OR_INDEX,
+    expect(herd_schema_check(SCHEMA, HERD_OLD_SCHEMA_WORDS) == HERD_LENGTH_OR_INDEX, "a schema of 97 words is refused");
+    expect(herd_insert(SCHEMA, HERD_SCHEMA_WORDS, robot, WORDS, delta, HERD_OLD_DELTA_WORDS, GROUP, &name, 1, &label)
+               == HERD_LENGTH_OR_INDEX,
            "a delta of 196 words is not written");
-    expect(herd_merge(SCHEMA, HERD_SCHEMA_WORDS, robot, WORDS, delta, OLD_DELTA, &changed) == HERD_LENGTH_OR_INDEX, "nor merged");
-    for (records = 0; HERD_HEADER_WORDS + OLD_RECORD * records <= WORDS; records++) {
+    expect(herd_merge(SCHEMA, HERD_SCHEMA_WORDS, robot, WORDS, delta, HERD_OLD_DELTA_WORDS, &changed) == HERD_LENGTH_OR_INDEX, "nor merged");
+    for (records = 0; HERD_OLD_TABLE_WORDS(records) <= WORDS; records++) {
         uint64_t expected = records % 7 == 0 ? HERD_DONE : HERD_LENGTH_OR_INDEX;
-        expect(herd_start(office, HERD_HEADER_WORDS + OLD_RECORD * records, 2) == expected, "every seventh length is one of both shapes");
+        expect(herd_start(office, HERD_OLD_TABLE_WORDS(records), 2) == expected, "every seventh length is one of both shapes");
     }
     table[HERD_REPLICA_WORD] = 3;
     expect(SEVEN == HERD_TABLE_WORDS(5) && herd_table_check(SCHEMA, HERD_SCHEMA_WORDS, table, SEVEN) == HERD_DONE,

@@ -21,7 +21,7 @@ pub enum Error {
     /// The schema is broken.
     SchemaBroken,
     /// The own table, in a comparison the first, is not well-formed; in a search for a record, what
-    /// it reads of the table.
+    /// it reads of the table; between old and new tables, the table turned.
     OwnNotWellFormed,
     /// The other table, in a comparison the second, is not well-formed.
     OtherNotWellFormed,
@@ -43,6 +43,8 @@ pub enum Error {
     ClockAtEnd,
     /// A flag to be redone is 65,535.
     FlagAtEnd,
+    /// A schema to be turned back has a relation with more than eight fields.
+    TooManyFields,
     /// A number that this version of the crate does not know, as a later library may answer it.
     Other(u64),
 }
@@ -63,6 +65,7 @@ impl Error {
         Error::Full,
         Error::ClockAtEnd,
         Error::FlagAtEnd,
+        Error::TooManyFields,
     ];
 
     /// The page's number, 1 or above.
@@ -81,6 +84,7 @@ impl Error {
             Error::Full => 11,
             Error::ClockAtEnd => 12,
             Error::FlagAtEnd => 13,
+            Error::TooManyFields => 14,
             Error::Other(number) => number,
         }
     }
@@ -120,6 +124,9 @@ impl fmt::Display for Error {
             Error::Full => "merge needs more than N distinct records; insertion with used = N",
             Error::ClockAtEnd => "insertion or update with clock 2^40 - 1",
             Error::FlagAtEnd => "a flag to be redone is 65,535",
+            Error::TooManyFields => {
+                "a schema to be turned back has a relation with more than eight fields"
+            }
             Error::Other(_) => "no answer of this version",
         })
     }

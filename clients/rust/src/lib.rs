@@ -11,6 +11,7 @@
 //!   it to the other replicas; a merge tells how many records it changed.
 //! - [`Table::compare`] tells of two copies which one must take in the other, as [`Compared`].
 //! - [`Table::find`] tells whether a record is known, by relation and label, and its index.
+//! - [`old`] turns tables of versions before 4.0.0 into those of this version, and back.
 //! - [`Marks`] say which records are shown, and [`List`] reads them in order.
 //! - [`words_to_bytes`] and [`words_from_bytes`] are for files and messages.
 //! - [`version_fits`] tells whether the linked library fits this crate; ask it at start-up.
@@ -78,6 +79,7 @@ mod error;
 mod label;
 pub mod layout;
 mod list;
+pub mod old;
 #[allow(unsafe_code)]
 pub mod raw;
 mod schema;

@@ -46,6 +46,26 @@ mod c {
             label: u64,
             index: *mut u64,
         ) -> u64;
+        pub fn herd_widen(
+            old_schema: *const u64,
+            old_schema_words: usize,
+            old_table: *const u64,
+            old_table_words: usize,
+            schema: *mut u64,
+            schema_words: usize,
+            table: *mut u64,
+            table_words: usize,
+        ) -> u64;
+        pub fn herd_narrow(
+            schema: *const u64,
+            schema_words: usize,
+            table: *const u64,
+            table_words: usize,
+            old_schema: *mut u64,
+            old_schema_words: usize,
+            old_table: *mut u64,
+            old_table_words: usize,
+        ) -> u64;
         pub fn herd_insert(
             schema: *const u64,
             schema_words: usize,
@@ -183,6 +203,44 @@ pub fn lookup(schema: &[u64], table: &[u64], relation: usize, label: u64, index:
             relation,
             label,
             index,
+        )
+    }
+}
+
+/// Turns an old schema and table into new ones with the same N: 0, 1, 2 or 3. Of `schema` and
+/// `table` only the lengths are asked, and old contents are ignored.
+pub fn widen(old_schema: &[u64], old_table: &[u64], schema: &mut [u64], table: &mut [u64]) -> u64 {
+    // SAFETY: each pointer and length are those of a borrowed slice; `schema` and `table` are
+    // borrowed for writing, so that they overlap nothing else.
+    unsafe {
+        c::herd_widen(
+            old_schema.as_ptr(),
+            old_schema.len(),
+            old_table.as_ptr(),
+            old_table.len(),
+            schema.as_mut_ptr(),
+            schema.len(),
+            table.as_mut_ptr(),
+            table.len(),
+        )
+    }
+}
+
+/// Turns a schema and a table back into old ones with the same N: 0, 1, 2, 3 or 14. Of `old_schema`
+/// and `old_table` only the lengths are asked, and old contents are ignored.
+pub fn narrow(schema: &[u64], table: &[u64], old_schema: &mut [u64], old_table: &mut [u64]) -> u64 {
+    // SAFETY: each pointer and length are those of a borrowed slice; `old_schema` and `old_table`
+    // are borrowed for writing, so that they overlap nothing else.
+    unsafe {
+        c::herd_narrow(
+            schema.as_ptr(),
+            schema.len(),
+            table.as_ptr(),
+            table.len(),
+            old_schema.as_mut_ptr(),
+            old_schema.len(),
+            old_table.as_mut_ptr(),
+            old_table.len(),
         )
     }
 }

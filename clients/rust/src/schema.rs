@@ -86,6 +86,11 @@ impl<W: AsRef<[u64]>> Schema<W> {
         Ok(Schema { words })
     }
 
+    /// The schema of words that the library wrote as one.
+    pub(crate) const fn given(words: W) -> Schema<W> {
+        Schema { words }
+    }
+
     /// The words, as they are stored or sent.
     pub fn words(&self) -> &[u64] {
         self.words.as_ref()

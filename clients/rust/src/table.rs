@@ -107,6 +107,11 @@ impl<W: AsRef<[u64]>> Table<W> {
         Ok(Table { words })
     }
 
+    /// The table of words that the library wrote as one.
+    pub(crate) const fn given(words: W) -> Table<W> {
+        Table { words }
+    }
+
     /// The words, as they are stored or sent.
     pub fn words(&self) -> &[u64] {
         self.words.as_ref()

@@ -3,12 +3,12 @@
 //! eight fields.
 
 use herd::layout::{
-    block_word, record_word, BLOCK_WORDS, HEADER_WORDS, HEAD_WORDS, KEY_WORDS, RECORD_WORDS,
-    REPLICA_WORD, USED_WORD,
+    block_word, record_word, BLOCK_WORDS, HEAD_WORDS, KEY_WORDS, RECORD_WORDS, REPLICA_WORD,
+    USED_WORD,
 };
 use herd::{
-    raw, table_words, Compared, Delta, Error, Kind, Label, Marks, Schema, SchemaBuilder, Table,
-    DELTA_RECORDS, DELTA_WORDS, FIELDS, MOST_RECORDS, SCHEMA_WORDS,
+    old, raw, table_words, Compared, Delta, Error, Kind, Label, Marks, Schema, SchemaBuilder,
+    Table, DELTA_RECORDS, DELTA_WORDS, FIELDS, MOST_RECORDS, SCHEMA_WORDS,
 };
 
 const GROUP: usize = 1;
@@ -23,11 +23,6 @@ const MINUTE: usize = 11;
 const PATIENT: usize = 12;
 
 const RECORDS: usize = 20;
-
-/// The figures with eight fields.
-const OLD_SCHEMA_WORDS: usize = 97;
-const OLD_RECORD_WORDS: usize = 20;
-const OLD_DELTA_WORDS: usize = 196;
 
 type Words = [u64; table_words(RECORDS)];
 
@@ -221,22 +216,22 @@ fn an_edit_changes_as_many_records_as_a_delta_holds() {
 fn lengths_of_eight_fields_are_refused() {
     let schema = schema();
     let mut table = start(1);
-    assert_eq!(Schema::new([0; OLD_SCHEMA_WORDS]), Err(Error::LengthOrIndex));
-    assert_eq!(Delta::from_words(&[0; OLD_DELTA_WORDS]), Err(Error::LengthOrIndex));
-    assert_eq!(table.merge(&schema, &[0; OLD_DELTA_WORDS]), Err(Error::LengthOrIndex));
-    let (mut own, mut delta) = (table.into_words(), [0; OLD_DELTA_WORDS]);
+    assert_eq!(Schema::new([0; old::SCHEMA_WORDS]), Err(Error::LengthOrIndex));
+    assert_eq!(Delta::from_words(&[0; old::DELTA_WORDS]), Err(Error::LengthOrIndex));
+    assert_eq!(table.merge(&schema, &[0; old::DELTA_WORDS]), Err(Error::LengthOrIndex));
+    let (mut own, mut delta) = (table.into_words(), [0; old::DELTA_WORDS]);
     assert_eq!(raw::insert(schema.words(), &mut own, &mut delta, GROUP, &[12], &mut 0), 1);
     // A table's length is one of both shapes for every seventh N.
-    let mut words = vec![0; HEADER_WORDS + OLD_RECORD_WORDS * MOST_RECORDS];
+    let mut words = vec![0; old::table_words(MOST_RECORDS)];
     for records in 0..=MOST_RECORDS {
-        let table = &mut words[..HEADER_WORDS + OLD_RECORD_WORDS * records];
+        let table = &mut words[..old::table_words(records)];
         assert_eq!(raw::start(table, 1), (records % 7 != 0) as u64, "{records}");
     }
 }
 
 #[test]
 fn an_empty_table_of_eight_fields_may_be_one_of_twelve() {
-    let mut words = [0; HEADER_WORDS + OLD_RECORD_WORDS * 7];
+    let mut words = [0; old::table_words(7)];
     words[REPLICA_WORD] = 3;
     let table = Table::open(&schema(), words).unwrap();
     assert_eq!((table.capacity(), table.used(), table.replica()), (5, 0, 3));

@@ -56,6 +56,11 @@ fn the_builder_makes_the_schema_of_the_cases() {
     assert_eq!((schema.kind(3, 0), schema.kind(3, 3), schema.kind(0, 1)), (None, None, None));
 }
 
+/// The kinds and the keys of each relation; a second key without a first is as good as the first.
+fn parts(schema: &[u64]) -> Vec<(Vec<second::schema::Kind>, Vec<Vec<usize>>)> {
+    random::decoded(schema).relations.into_iter().map(|of| (of.kinds, of.keys)).collect()
+}
+
 #[test]
 fn the_builder_makes_every_random_schema() {
     let mut random = Random::new(1);
@@ -80,7 +85,7 @@ fn the_builder_makes_every_random_schema() {
             }
         }
         let schema = builder.build().unwrap();
-        assert_eq!(random::decoded(schema.words()), decoded);
+        assert_eq!(parts(schema.words()), parts(&words));
     }
 }
 

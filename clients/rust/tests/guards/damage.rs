@@ -2,6 +2,7 @@
 
 use crate::driver::Driver;
 use crate::lookup::lookups;
+use crate::old::narrow_damaged;
 use herd::layout::{
     block_word, table_words, DELTA_WORDS, FIELDS, HEADER_WORDS, MOST_RECORDS, RECORD_WORDS,
     USED_WORD,
@@ -27,7 +28,8 @@ pub struct Damage {
     more_marks: i64,
 }
 
-fn spoil(random: &mut Random, words: &mut [u64]) {
+/// Spoils a word.
+pub fn spoil(random: &mut Random, words: &mut [u64]) {
     if words.is_empty() {
         return;
     }
@@ -48,6 +50,11 @@ pub fn spoil_table(random: &mut Random, words: &mut [u64]) {
 }
 
 pub fn resize(random: &mut Random, words: &mut Vec<u64>) {
+    resize_by(random, words, RECORD_WORDS);
+}
+
+/// Another length: of a header, or one beside the own or a record of so many words above it.
+pub fn resize_by(random: &mut Random, words: &mut Vec<u64>, record: usize) {
     let length = words.len();
     let lengths = [
         0,
@@ -57,8 +64,8 @@ pub fn resize(random: &mut Random, words: &mut Vec<u64>) {
         HEADER_WORDS + 1,
         length.saturating_sub(1),
         length + 1,
-        length + RECORD_WORDS - 1,
-        length + RECORD_WORDS,
+        length + record - 1,
+        length + record,
     ];
     words.resize(random.pick(&lengths), 0);
 }
@@ -109,7 +116,7 @@ impl Damage {
         let mut table = self.table.clone();
         let records = table.len().saturating_sub(HEADER_WORDS) / RECORD_WORDS;
         let count = (records as i64 + self.more_marks).max(0) as usize;
-        match random.below(12) {
+        match random.below(14) {
             0 => {
                 driver.schema_check(schema);
                 driver.table_check(schema, &table);
@@ -134,6 +141,7 @@ impl Damage {
                 driver.walk(schema, &table, &marks, &mut place);
             }
             7 | 8 => lookups(driver, random, schema, &table),
+            9 | 10 => narrow_damaged(driver, random, schema, &table),
             _ => self.edit(driver, random, &mut table),
         }
     }

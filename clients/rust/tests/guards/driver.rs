@@ -20,6 +20,8 @@ pub const ANSWERS: Answers = &[
     ("merge", &[0, 1, 2, 3, 4, 11]),
     ("compare", &[0, 1, 2, 3, 4]),
     ("lookup", &[0, 1, 2, 3, 5]),
+    ("widen", &[0, 1, 2, 3]),
+    ("narrow", &[0, 1, 2, 3, 14]),
     ("insert", &[0, 1, 2, 3, 5, 7, 8, 9, 11, 12, 13]),
     ("update", &[0, 1, 2, 3, 6, 7, 8, 9, 12, 13]),
     ("delete", &[0, 1, 2, 3, 6, 10, 13]),
@@ -125,12 +127,17 @@ impl Driver {
         self.lend(&[old])
     }
 
+    /// A buffer with any contents.
+    pub fn any_words(&mut self, count: usize) -> Vec<u64> {
+        if self.random.chance(1, 2) {
+            return vec![0; count];
+        }
+        (0..count).map(|_| self.word()).collect()
+    }
+
     /// A delta buffer with any contents.
     pub fn any_delta(&mut self) -> Vec<u64> {
-        if self.random.chance(1, 2) {
-            return vec![0; herd::DELTA_WORDS];
-        }
-        (0..herd::DELTA_WORDS).map(|_| self.word()).collect()
+        self.any_words(herd::DELTA_WORDS)
     }
 
     /// Marks with any contents.

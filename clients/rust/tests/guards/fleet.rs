@@ -3,6 +3,7 @@
 use crate::damage::Damage;
 use crate::driver::Driver;
 use crate::lookup::{each_record, lookups};
+use crate::old::turnings;
 use herd::layout::{record_word, FLAG_WORD, RECORD_WORDS, USED_WORD};
 use herd::Compared;
 use second::cases::{herd, record, COW, GROUP};
@@ -170,7 +171,7 @@ impl Fleet {
 
     fn step(&mut self, driver: &mut Driver, random: &mut Random) {
         let at = random.below(self.tables.len() as u64) as usize;
-        match random.below(44) {
+        match random.below(47) {
             0 => {
                 let replica = random.pick(&[0, 1, 2, 3, 255, 256, u64::MAX]);
                 driver.start(&mut self.tables[at], replica);
@@ -191,6 +192,7 @@ impl Fleet {
                 Damage::of(random, &self.schema, &self.tables[at], other).run(driver, random);
             }
             24..=27 => lookups(driver, random, &self.schema, &self.tables[at]),
+            28..=30 => turnings(driver, random, &self.schema, &self.tables[at]),
             _ => self.edit(driver, random, at),
         }
     }
@@ -272,6 +274,7 @@ pub fn large(driver: &mut Driver, seed: u64, capacity: usize) {
             for _ in 0..10 {
                 lookups(driver, &mut random, &fleet.schema, table);
             }
+            turnings(driver, &mut random, &fleet.schema, table);
         }
     }
 }

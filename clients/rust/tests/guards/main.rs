@@ -9,12 +9,14 @@ mod driver;
 mod fleet;
 mod lent;
 mod lookup;
+mod old;
 
 use book::{barn, large_barn};
 use driver::{Answers, Driver, ANSWERS, LOOKUPS};
 use fleet::{fleet, large};
 use lent::Lending;
 use lookup::each_word_damaged;
+use old::each_word_turned;
 
 const FLEETS: u64 = 600;
 const STEPS: usize = 100;
@@ -75,6 +77,18 @@ fn lookups_in_damaged_tables_between_guards() {
     print!("{}", driver.report(ANSWERS));
     assert!(driver.given("lookup", 3) >= 1_000 && driver.given("lookup", 5) >= 1_000);
     looked_up_each(&driver);
+}
+
+#[test]
+fn turnings_of_damaged_tables_between_guards() {
+    let mut driver = Driver::new(Lending::Guarded, 6);
+    for seed in 0..DAMAGED {
+        each_word_turned(&mut driver, seed);
+    }
+    print!("{}", driver.report(ANSWERS));
+    for function in ["widen", "narrow"] {
+        assert!([0, 2, 3].iter().all(|answer| driver.given(function, *answer) >= 1_000));
+    }
 }
 
 #[test]
