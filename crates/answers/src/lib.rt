@@ -1,11 +1,13 @@
 // The answers of the calls of document 01, "What a call hands back": an enum for each call, with the page's number and the values
 // of each case.
+#![tactic(auto)]
+
 ghost use Rattle.std.specs.Prelude.{◌≡◌};
 ghost use Rattle.answers.specs.Told.{schema_told, table_told, start_told, merge_told, marks_told, walk_told, insertion_told, update_told, deletion_told, find_told, compare_told, lookup_told};
 ghost use Rattle.answers.specs.Told.{widen_told, narrow_told};
 
 // Schema check.
-#[derive(Drop)]
+#[derive(Clone, Copy)]
 pub enum SchemaAnswer {
     Good,
     WrongLength,
@@ -26,7 +28,7 @@ impl SchemaAnswer {
 }
 
 // Table check.
-#[derive(Drop)]
+#[derive(Clone, Copy)]
 pub enum TableAnswer {
     Good,
     WrongLength,
@@ -49,7 +51,7 @@ impl TableAnswer {
 }
 
 // Starting a table.
-#[derive(Drop)]
+#[derive(Clone, Copy)]
 pub enum StartAnswer {
     Started,
     WrongLength,
@@ -70,7 +72,7 @@ impl StartAnswer {
 }
 
 // Merge, with how many records it changed or added.
-#[derive(Drop)]
+#[derive(Clone, Copy)]
 pub enum MergeAnswer {
     Merged(usize),
     WrongLength,
@@ -111,7 +113,7 @@ impl MergeAnswer {
 }
 
 // Marks, with the shown count.
-#[derive(Drop)]
+#[derive(Clone, Copy)]
 pub enum MarksAnswer {
     Marked(usize),
     WrongLength,
@@ -146,7 +148,7 @@ impl MarksAnswer {
 }
 
 // The walk: the index of the record given, or the end of the list.
-#[derive(Drop)]
+#[derive(Clone, Copy)]
 pub enum WalkAnswer {
     Given(usize),
     End,
@@ -184,7 +186,7 @@ impl WalkAnswer {
 }
 
 // Insertion, with the new label.
-#[derive(Drop)]
+#[derive(Clone, Copy)]
 pub enum InsertionAnswer {
     Inserted(u64),
     WrongLength,
@@ -240,7 +242,7 @@ impl InsertionAnswer {
 }
 
 // Update of a field.
-#[derive(Drop)]
+#[derive(Clone, Copy)]
 pub enum UpdateAnswer {
     Updated,
     WrongLength,
@@ -275,7 +277,7 @@ impl UpdateAnswer {
 }
 
 // Deletion.
-#[derive(Drop)]
+#[derive(Clone, Copy)]
 pub enum DeletionAnswer {
     Deleted,
     WrongLength,
@@ -304,7 +306,7 @@ impl DeletionAnswer {
 }
 
 // The herd book's search for a shown milking, with its index, 0 for none.
-#[derive(Drop)]
+#[derive(Clone, Copy)]
 pub enum FindAnswer {
     Given(usize),
     WrongLength,
@@ -336,7 +338,7 @@ impl FindAnswer {
 }
 
 // Which of two copies is ahead, with the verdict.
-#[derive(Drop)]
+#[derive(Clone, Copy)]
 pub enum CompareAnswer {
     Alike,
     FirstBehind,
@@ -383,7 +385,7 @@ impl CompareAnswer {
 }
 
 // A record looked up by relation and label, with its index.
-#[derive(Drop)]
+#[derive(Clone, Copy)]
 pub enum LookupAnswer {
     Known(usize),
     Unknown,
@@ -424,7 +426,7 @@ impl LookupAnswer {
 }
 
 // An old schema and table turned into new ones.
-#[derive(Drop)]
+#[derive(Clone, Copy)]
 pub enum WidenAnswer {
     Widened,
     WrongLength,
@@ -447,7 +449,7 @@ impl WidenAnswer {
 }
 
 // A schema and a table turned back into old ones.
-#[derive(Drop)]
+#[derive(Clone, Copy)]
 pub enum NarrowAnswer {
     Narrowed,
     WrongLength,

@@ -1,5 +1,7 @@
 // The herd book: for each kind of record a call that enters one (book_entries), one that changes a field and one that strikes off. Each is the library's
 // call under the herd book's schema (book_edits).
+#![tactic(auto)]
+
 ghost use Rattle.std.specs.Prelude.{◌≡◌};
 ghost use Rattle.answers.specs.Told.{told, update_told, deletion_told};
 ghost use Rattle.model.specs.Book.{groups, cows, robots, milkings, cleanings, treatments, change_number, change_table, change_delta, strike_number, strike_table, strike_delta};

@@ -1,4 +1,6 @@
 // The herd book's changes and strikes, of any kind of record: the library's edits under its schema, with 6 also for a record of another kind.
+#![tactic(auto)]
+
 ghost use Rattle.std.specs.Prelude.{◌≡◌, eqb};
 ghost use Rattle.answers.specs.Told.{told, table_told, update_told, deletion_told};
 ghost use Rattle.model.specs.Layout.{relation_at};

@@ -1,4 +1,6 @@
 // The herd book's entries: for each kind of record a call that enters one. Each is the library's insertion under the herd book's schema.
+#![tactic(auto)]
+
 ghost use Rattle.std.specs.Prelude.{◌≡◌, [], ◌∷◌};
 ghost use Rattle.answers.specs.Told.{told, insertion_told};
 ghost use Rattle.model.specs.Calls.{insertion_number, insertion_label, insertion_table, insertion_delta};

@@ -1,4 +1,6 @@
 // The herd book's search for a shown milking.
+#![tactic(auto)]
+
 ghost use Rattle.std.specs.Prelude.{◌≡◌, cond, ◌≤◌, ◌<◌};
 ghost use Rattle.answers.specs.Told.{told, find_told};
 ghost use Rattle.model.specs.Layout.{used_at};

@@ -1,4 +1,6 @@
 // The schema of the herd book, as a constant, and the numbers of its relations.
+#![tactic(auto)]
+
 ghost use Rattle.std.specs.Prelude.{◌≡◌};
 ghost use Rattle.model.specs.Book.{book};
 

@@ -1,4 +1,6 @@
 // Words from little-endian bytes.
+#![tactic(auto)]
+
 ghost use Rattle.std.specs.Prelude.{◌≡◌, ◌+◌, ◌*◌, ◌%◌, ◌≤◌, ◌<◌, length, take};
 ghost use Rattle.model.specs.Layout.{word_bytes};
 ghost use Rattle.codec.specs.Bytes.{word_at, words_of};

@@ -1,4 +1,6 @@
 // Which of two copies is ahead (document 02, F-3): checks, then each table held against the other (compare_within).
+#![tactic(auto)]
+
 ghost use Rattle.std.specs.Prelude.{◌≡◌};
 ghost use Rattle.answers.specs.Told.{told, compare_told};
 ghost use Rattle.model.specs.Tables.{contents};

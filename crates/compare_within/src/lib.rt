@@ -1,5 +1,7 @@
 // Whether a table is behind another or alike: its clock at most the other's, and each record up to the other's, by flag and registers. Both
 // chains of a relation are walked side by side. Nothing is written.
+#![tactic(auto)]
+
 ghost use Rattle.std.specs.Prelude.{◌≡◌, true, ◌&&◌, ◌^◌, ◌/◌, ◌≤◌};
 ghost use Rattle.model.specs.Layout.{fields, most_relations, most_records, word, label_at};
 ghost use Rattle.model.specs.Tables.{contents};

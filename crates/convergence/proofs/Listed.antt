@@ -35,6 +35,7 @@ mapped_at f (x ∷ xs) zero d h = refl
 mapped_at f (x ∷ xs) (suc n) d h = mapped_at f xs n d (omega arith)
 
 place_of : (l : List Rec) (x : Rec) → x ∈ l → (n : ℕ) × (n < length l) × (get_or l n no_rec ≡ x)
+place_of [] x x3 = elim x3 [ ]
 place_of (y ∷ ys) x (Memᴰ.head e) = (0, omega arith, sym e)
 place_of (y ∷ ys) x (Memᴰ.tail h) = let r = place_of ys x h in (suc r.0, omega (arith, r.1), r.2)
 

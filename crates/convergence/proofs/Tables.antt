@@ -9,7 +9,7 @@ use mathlib.Core.List.{List, [], ◌∷◌}
 use native.Mathlib.Omega.{arith}
 use lib.Dec.{eqb, leb, ltb}
 use lib.ListN.{length, get_or, set, replicate}
-use borrow.Author.Tests.{ltb-true, ltb-false, le-ltb, lt-ltb, leb-true, eqb-true, not_false as unnot}
+use borrow.Author.Tests.{ltb-true, ltb-false, le-ltb, lt-ltb, leb-true, eqb-true, not-false as unnot}
 use Rattle.crdt.specs.Labels.{largest_counter, is_replica}
 use Rattle.crdt.proofs.Tests.{test, clash, not_true, not_false, and_left, and_right, and_both, or_cases, or_left, or_right, or_false}
 use Rattle.model.specs.Layout.{fields, header_words, record_words, most_records, capacity_of, replica_word, relations, field_count, kind_at}

@@ -1,14 +1,14 @@
 -- The cases of a register's join, and the limits of a label, over plain numbers.
 -- Assumes nothing.
 use Prim.Native.Nat.{ℕ, ◌<◌, ◌≤◌}
-use mathlib.Core.Path.{◌≡◌, refl, sym}
-use mathlib.Core.Bool.{Bool, true, false, ◌||◌, ◌&&◌}
+use mathlib.Core.Path.{◌≡◌}
+use mathlib.Core.Bool.{true, ◌&&◌}
 use native.Mathlib.Omega.{arith}
-use lib.Dec.{ltb, leb, eqb}
+use lib.Dec.{leb}
 use borrow.Author.Tests.{lt-ltb, le-ltb, le-leb, lt-leb, eq-eqb, ne_eqb, leb-true}
 use Rattle.crdt.specs.Labels.{is_counter, is_replica, largest_counter, largest_replica}
 use Rattle.crdt.proofs.Tests.{and_left, and_right}
-use Rattle.crdt.specs.Cells.{Reg, reg, up_to, join_reg}
+use Rattle.crdt.specs.Cells.{reg, up_to, join_reg}
 
 module _ (va sa vb sb : ℕ) where
   pub join_later : sa < sb → reg vb sb ≡ join_reg (reg va sa) (reg vb sb)

@@ -1,11 +1,13 @@
 // Labels, registers and flags: the parts that every table is made of.
+#![tactic(auto)]
+
 ghost use Rattle.std.specs.Prelude.{◌≡◌, not, ◌≤◌, ◌<◌, max, eqb};
 ghost use Rattle.crdt.specs.Labels.{is_label, label_within, counter_of, replica_of};
 ghost use Rattle.crdt.specs.Flags.{largest_flag, deleted, redone};
 ghost use Rattle.crdt.specs.Cells.{reg, join_reg, reg_changed};
 
 // A label: counter × 256 + replica, or 0 for none.
-#[derive(Drop)]
+#[derive(Clone, Copy)]
 pub struct Label(pub u64);
 
 impl Label {
@@ -52,14 +54,14 @@ impl Label {
 }
 
 // A value and its stamp, a label or none.
-#[derive(Drop)]
+#[derive(Clone, Copy)]
 pub struct Register {
     pub value: u64,
     pub stamp: u64,
 }
 
 // A joined register, and whether its value or stamp differs from before.
-#[derive(Drop)]
+#[derive(Clone, Copy)]
 pub struct JoinedRegister {
     pub register: Register,
     pub changed: bool,
@@ -96,7 +98,7 @@ pub fn join_registers(a: Register, b: Register) -> JoinedRegister
 pub const LARGEST_FLAG: u64 = 65535;
 
 // A joined flag, and whether it differs from before.
-#[derive(Drop)]
+#[derive(Clone, Copy)]
 pub struct JoinedFlag {
     pub flag: u64,
     pub changed: bool,

@@ -1,4 +1,6 @@
 // Key conflicts and references by abort among the standing records of a judged table: what the checks of the three edits share.
+#![tactic(auto)]
+
 ghost use Rattle.std.specs.Prelude.{◌≡◌, Bool, ◌&&◌, not, ℕ, ◌≤◌, ◌*◌, eqb, length};
 ghost use Rattle.model.specs.Layout.{fields, most_records, used_at};
 ghost use Rattle.model.specs.Lists.{some_of};

@@ -1,4 +1,6 @@
 // The checks of a deletion, in number order, and the marks of the records that it redoes.
+#![tactic(auto)]
+
 ghost use Rattle.std.specs.Prelude.{◌≡◌, ◌*◌, length};
 ghost use Rattle.answers.specs.Told.{told, deletion_told};
 ghost use Rattle.model.specs.Layout.{fields, most_records};

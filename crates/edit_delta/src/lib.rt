@@ -1,4 +1,6 @@
 // The delta of an edit: one changed record, and those that are marked to be redone, in list order.
+#![tactic(auto)]
+
 ghost use Rattle.std.specs.Prelude.{◌≡◌, ◌&&◌, ◌+◌, ◌≤◌, ◌<◌, eqb, length};
 ghost use Rattle.crdt.specs.Flags.{deleted};
 ghost use Rattle.crdt.specs.Cells.{reg};

@@ -1,4 +1,6 @@
 // What the three edits begin with: checks 1 to 3, then the references of the table resolved and its standing and shown records marked.
+#![tactic(auto)]
+
 ghost use Rattle.std.specs.Prelude.{◌≡◌, ◌*◌, length};
 ghost use Rattle.answers.specs.Told.{told, table_told};
 ghost use Rattle.model.specs.Layout.{fields, most_records};

@@ -1,4 +1,6 @@
 // The checks of an insertion, in number order, and the marks of the records that it redoes.
+#![tactic(auto)]
+
 ghost use Rattle.std.specs.Prelude.{◌≡◌, true, [], ◌∷◌, ◌≤◌, ◌*◌, eqb, length};
 ghost use Rattle.crdt.specs.Labels.{largest_counter};
 ghost use Rattle.answers.specs.Told.{told, insertion_told};

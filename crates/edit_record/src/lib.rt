@@ -1,4 +1,6 @@
 // The words of a delta: an empty one, one more record, and the label of a new record.
+#![tactic(auto)]
+
 ghost use Rattle.std.specs.Prelude.{◌≡◌, cond, [], ◌≤◌, ◌<◌, length, replicate};
 ghost use Rattle.crdt.specs.Labels.{largest_counter};
 ghost use Rattle.crdt.specs.Flags.{redone, deleted};

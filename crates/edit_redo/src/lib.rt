@@ -1,4 +1,6 @@
 // The records that an edit redoes, as one mark for each record: 1 for those to be redone and 0 for the others.
+#![tactic(auto)]
+
 ghost use Rattle.std.specs.Prelude.{◌≡◌, true, cond, ◌||◌, ◌&&◌, not, List, ℕ, ◌≤◌, ◌*◌, eqb, length};
 ghost use Rattle.crdt.specs.Flags.{largest_flag};
 ghost use Rattle.model.specs.Layout.{fields, most_records, used_at, flag_at};

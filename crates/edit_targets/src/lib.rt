@@ -1,4 +1,6 @@
 // Where references lead: the values that a call is lent, and the references of a table's records.
+#![tactic(auto)]
+
 ghost use Rattle.std.specs.Prelude.{◌≡◌, true, ◌||◌, ◌&&◌, not, ◌≤◌, ◌<◌, ◌+◌, ◌*◌, eqb, ltb, length};
 ghost use Rattle.model.specs.Layout.{fields, most_relations, most_records, used_at, label_at, field_count};
 ghost use Rattle.model.specs.Lists.{all_of, some_of};

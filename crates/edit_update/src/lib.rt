@@ -1,4 +1,6 @@
 // The checks of an update, in number order, and the marks of the records that it redoes.
+#![tactic(auto)]
+
 ghost use Rattle.std.specs.Prelude.{◌≡◌, cond, ◌≤◌, ◌*◌, eqb, length};
 ghost use Rattle.crdt.specs.Cells.{reg};
 ghost use Rattle.answers.specs.Told.{told, update_told};

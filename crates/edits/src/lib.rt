@@ -1,4 +1,6 @@
 // The three edits of document 01: judge, then draft the delta, then merge the delta into the own table. A refusal changes no word.
+#![tactic(auto)]
+
 ghost use Rattle.std.specs.Prelude.{◌≡◌};
 ghost use Rattle.answers.specs.Told.{told, insertion_told, update_told, deletion_told};
 ghost use Rattle.model.specs.Calls.{insertion_number, insertion_label, insertion_table, insertion_delta, update_number, update_table, update_delta, deletion_number, deletion_table, deletion_delta};

@@ -1,5 +1,7 @@
 // The calls of document 01 as C functions, and the version. A slice is a pointer and a length; the answer is the page's number. No rule
 // stands here.
+#![tactic(auto)]
+
 ghost use Rattle.std.specs.Prelude.{◌≡◌};
 ghost use Rattle.model.specs.Calls.{schema_number, table_number, start_number, start_table, values_number, values_first, merge_number, merge_table, merge_changed, marks_number, marks_count, marks_marks, walk_number, walk_given, walk_place, insertion_number, insertion_label, insertion_table, insertion_delta, update_number, update_table, update_delta, deletion_number, deletion_table, deletion_delta};
 ghost use Rattle.model.specs.Compare.{compare_number, compare_verdict};

@@ -1,5 +1,7 @@
 // The calls of the herd book as C functions (document 02, F-2). A slice is a pointer and a length; the answer is the number of document 01. No rule
 // stands here.
+#![tactic(auto)]
+
 ghost use Rattle.std.specs.Prelude.{◌≡◌, [], ◌∷◌};
 ghost use Rattle.model.specs.Calls.{insertion_number, insertion_label, insertion_table, insertion_delta};
 ghost use Rattle.model.specs.Book.{groups, cows, robots, milkings, cleanings, treatments, book, change_number, change_table, change_delta, strike_number, strike_table, strike_delta, find_number, find_index};

@@ -10,7 +10,7 @@ use mathlib.Core.Option.{Option, none, some}
 use native.Mathlib.Omega.{arith}
 use lib.Dec.{eqb, leb, ltb}
 use lib.ListN.{length, get_or, set, replicate, length-append, length-replicate, length-set, length-map}
-use borrow.Author.Tests.{eqb-true, eqb-false, leb-true, ltb-true, le-leb, ne_eqb, not_false as unnot}
+use borrow.Author.Tests.{eqb-true, eqb-false, leb-true, ltb-true, le-leb, ne_eqb, not-false as unnot}
 use Rattle.crdt.specs.Labels.{largest_counter, label_of, is_replica, is_label, counter_of}
 use Rattle.crdt.specs.Flags.{largest_flag, is_odd, is_even, deleted, redone}
 use Rattle.crdt.specs.Cells.{Reg, reg, no_reg, Cell}

@@ -33,6 +33,7 @@ module _ {A : Type 0} where
 
   pub in_only : (p : A → Bool) (x : A) (l : List A) → x ∈ l → p x ≡ true → x ∈ only p l
   unfolding only
+  in_only p x [] x3 e = elim x3 [ ]
   in_only p x (y ∷ ys) (Memᴰ.head q) e = let e' : p y ≡ true = rw q at e in rw e' (Memᴰ.head q)
   in_only p x (y ∷ ys) (Memᴰ.tail h) e = go (p y) (in_only p x ys h e)
     where
@@ -51,11 +52,13 @@ module _ {A : Type 0} where
 
   pub in_some : (p : A → Bool) (x : A) (l : List A) → x ∈ l → p x ≡ true → some_of p l ≡ true
   unfolding some_of
+  in_some p x [] x3 e = elim x3 [ ]
   in_some p x (y ∷ ys) (Memᴰ.head q) e = or_left (p y) _ (rw q at e)
   in_some p x (y ∷ ys) (Memᴰ.tail h) e = or_right (p y) _ (in_some p x ys h e)
 
   pub all_in : (p : A → Bool) (x : A) (l : List A) → all_of p l ≡ true → x ∈ l → p x ≡ true
   unfolding all_of
+  all_in p x [] h x3 = elim x3 [ ]
   all_in p x (y ∷ ys) h (Memᴰ.head q) = rw q (and_left (p y) _ h)
   all_in p x (y ∷ ys) h (Memᴰ.tail k) = all_in p x ys (and_right (p y) _ h) k
 

@@ -1,7 +1,7 @@
 -- Records of distinct keys are settled by their members: any two listings of them are one list in order.
 -- Assumes nothing.
 use Prim.Native.Nat.{ℕ, suc, ◌≤◌, ◌<◌}
-use mathlib.Core.Path.{◌≡◌, refl, sym, ◌∙◌, ap}
+use mathlib.Core.Path.{subst, ◌≡◌, refl, sym, ◌∙◌, ap}
 use mathlib.Core.Logic.{◌⊎◌, inl, inr}
 use mathlib.Core.Bool.{Bool, true, false, ◌||◌}
 use mathlib.Core.List.Memᴰ
@@ -27,9 +27,14 @@ absent s k h = go (at k s) (sym (has_at s k) ∙ h)
     go none e = refl
     go (some c) e = clash refl e
 
+at_first : (y : Rec) (ys : List Rec) → has ys y.key ≡ false → at y.key (y ∷ ys) ≡ some y.cell
+unfolding at join_opt
+at_first y ys h = cc (own_self y, absent ys y.key h)
+
 pub at_member : (s : List Rec) (x : Rec) → Distinct s → x ∈ s → at x.key s ≡ some x.cell
 unfolding at join_opt
-at_member (y ∷ ys) x d (Memᴰ.head e) = rw e (cc (own_self y, absent ys y.key d.0))
+at_member [] x d x4 = elim x4 [ ]
+at_member (y ∷ ys) x d (Memᴰ.head e) = subst (λ (z : Rec). at z.key (y ∷ ys) ≡ some z.cell) (sym e) (at_first y ys d.0)
 at_member (y ∷ ys) x d (Memᴰ.tail m) =
     let n : x.key ≡ y.key → ⊥ = λ e. clash (in_has ys x y.key m e) d.0 in
     cc (own_other x.key y n, at_member ys x d.1 m)

@@ -290,6 +290,7 @@ module _ (σ : List Relation) where
 
   -- what conflicts with no older one that is kept, is kept
   rising_above : (b : ℕ) (s : List Rec) (x : Rec) → Rising b s → x ∈ s → b ≤ x.key
+  rising_above b [] x r x4 = elim x4 [ ]
   rising_above b (y ∷ ys) x r (Memᴰ.head q) = omega (arith, r.0, ap (λ (z : Rec). z.key) q)
   rising_above b (y ∷ ys) x r (Memᴰ.tail m) = omega (arith, r.0, rising_above (suc y.key) ys x r.1 m)
 
@@ -298,6 +299,7 @@ module _ (σ : List Relation) where
 
   after_all : (b : ℕ) (k s : List Rec) (x : Rec) → Rising b s → x ∈ s → beaten σ k x ≡ false → Free (kept_after σ k s) x → x ∈ kept_after σ k s
   unfolding beaten some_of
+  after_all b k [] x r m e f = elim m [ ]
   after_all b k (z ∷ zs) x r m e f =
       go (test (beaten σ k z)) m (λ (n : x ∈ zs) (g : Free (kept_after σ k zs) x). after_all (suc z.key) k zs x r.1 n e g)
       (λ (n : x ∈ zs) (e' : beaten σ (z ∷ k) x ≡ false) (g : Free (kept_after σ (z ∷ k) zs) x). after_all (suc z.key) (z ∷ k) zs x r.1 n e' g)

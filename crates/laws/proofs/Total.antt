@@ -32,6 +32,7 @@ module _ (D : ℕ → List Rec) (R : (n : ℕ) → Rising 0 (D n)) where
 
   holds : (n : ℕ) (l : List ℕ) → Memᴰ n l → join (total D l) (D n) ≡ total D l
   unfolding total
+  holds n [] x' = elim x' [ ]
   holds n (k ∷ l) (Memᴰ.head e) = rw e (cc (join_assoc (total D l) (D k) (D k) (total_rising l), join_idem (D k) (R k)))
   holds n (k ∷ l) (Memᴰ.tail h) =
       cc (holds n l h, join_assoc (total D l) (D k) (D n) (total_rising l), join_comm (D k) (D n) (R k) (R n), join_assoc (total D l) (D n) (D k) (total_rising l))

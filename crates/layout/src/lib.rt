@@ -1,5 +1,7 @@
 // The layout of schemas and tables: its numbers, and the words of a lent slice by what they mean. Each function is total:
 // a word past the end of a slice is 0, and a store there does nothing.
+#![tactic(auto)]
+
 ghost use Rattle.std.specs.Prelude.{◌≡◌, ◌≤◌, ◌+◌, ◌-◌, ◌^◌, set};
 ghost use Rattle.model.specs.Layout.{word, block, base, relations, field_count, kind_at, mask_at, capacity_of, replica_at, clock_at, used_at, first_at, next_at, relation_at, label_at, flag_at, value_at, stamp_at};
 ghost use Rattle.model.specs.Calls.{schema_length, table_length, delta_length, marks_length, bad_index};

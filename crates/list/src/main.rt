@@ -1,4 +1,6 @@
 // The list program: a schema and a table on standard input, the list of the shown records on standard output.
+#![tactic(auto)]
+
 ghost use Rattle.std.specs.Prelude.{◌≡◌, true, ◌+◌, ◌≤◌, length, take, drop};
 ghost use Rattle.model.specs.Layout.{schema_words, header_words, capacity_of};
 ghost use Rattle.model.specs.Calls.{marks_length};

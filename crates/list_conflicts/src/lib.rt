@@ -1,4 +1,6 @@
 // The key comparison: whether two records conflict on a key.
+#![tactic(auto)]
+
 ghost use Rattle.std.specs.Prelude.{◌≡◌, true, false, ◌||◌, ◌&&◌, not, ◌+◌, ◌-◌, ◌%◌, ◌≤◌, ◌<◌, eqb, length};
 ghost use Rattle.model.specs.Layout.{fields, used_at, relation_at, field_count, kind_at};
 ghost use Rattle.model.specs.Lists.{listed};

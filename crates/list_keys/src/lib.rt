@@ -1,6 +1,8 @@
 // Step 3 of the shown list: by rising label, a standing record is dropped exactly if it conflicts with an older one of its relation that is
 // kept. Marks are one byte per record, 1 for a member and 0 for none. For each key of a relation the records that are kept are put into
 // buckets by a digest of their values, from the oldest on, and a record is compared with those of its bucket.
+#![tactic(auto)]
+
 ghost use Rattle.std.specs.Prelude.{◌≡◌, true, false, cond, ◌||◌, ◌+◌, ◌-◌, ◌%◌, ◌≤◌, ◌<◌, eqb, length, get_or, set};
 ghost use Rattle.model.specs.Layout.{fields, most_relations, most_records, used_at, relation_at, label_at, field_count, mask_at};
 ghost use Rattle.model.specs.Schemas.{schema_of};

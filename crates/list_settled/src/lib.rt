@@ -1,4 +1,6 @@
 // Step 4 of the shown list over resolved references, on one mark per record.
+#![tactic(auto)]
+
 ghost use Rattle.std.specs.Prelude.{◌≡◌, true, false, ◌+◌, ◌*◌, ◌-◌, ◌≤◌, length};
 ghost use Rattle.model.specs.Layout.{fields, used_at};
 ghost use Rattle.model.specs.Schemas.{schema_of};

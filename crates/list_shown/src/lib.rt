@@ -1,4 +1,6 @@
 // Steps 3 and 4 of the shown list over resolved references, and the shown marks of a table.
+#![tactic(auto)]
+
 ghost use Rattle.std.specs.Prelude.{◌≡◌, cond, ◌++◌, ◌+◌, ◌*◌, ◌-◌, ◌≤◌, eqb, length, take, replicate};
 ghost use Rattle.answers.specs.Told.{told, marks_told};
 ghost use Rattle.model.specs.Layout.{fields, used_at};

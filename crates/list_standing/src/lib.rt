@@ -1,4 +1,6 @@
 // Standing records: the complete ones with even flags, and the complete ones reached from these by abort references.
+#![tactic(auto)]
+
 ghost use Rattle.std.specs.Prelude.{◌≡◌, true, ◌≤◌, ◌<◌, ◌+◌, ◌*◌, length};
 ghost use Rattle.model.specs.Layout.{fields, most_records, field_count, used_at, relation_at};
 ghost use Rattle.model.specs.Schemas.{schema_of};

@@ -1,4 +1,6 @@
 // One step of the list walk: the next record in list order whose mark is 1, from a place.
+#![tactic(auto)]
+
 ghost use Rattle.std.specs.Prelude.{◌≡◌, cond, ◌||◌, ◌&&◌, not, ◌+◌, ◌≤◌, eqb, ltb};
 ghost use Rattle.answers.specs.Told.{told_ended, walk_told};
 ghost use Rattle.model.specs.Layout.{most_relations, capacity_of, used_at, first_at, next_at, relation_at};

@@ -1,5 +1,7 @@
 // The list's text in a lent buffer. Each function writes from an index on and gives the index after its text; what the buffer has
 // no room for is left out.
+#![tactic(auto)]
+
 ghost use Rattle.std.specs.Prelude.{◌≡◌, [], ◌∷◌, ◌++◌, map, ◌+◌, ◌≤◌};
 ghost use Rattle.model.specs.Layout.{most_records, used_at, field_count, kind_at, value_at};
 ghost use Rattle.model.specs.Lists.{listed};

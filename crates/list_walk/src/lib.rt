@@ -1,4 +1,6 @@
 // The list walk: the next record in list order whose mark is 1, from a place that the caller holds.
+#![tactic(auto)]
+
 ghost use Rattle.std.specs.Prelude.{◌≡◌, cond, eqb};
 ghost use Rattle.answers.specs.Told.{told_ended, walk_told};
 ghost use Rattle.model.specs.Calls.{walk_number, walk_given, walk_ended, walk_place};
@@ -6,7 +8,7 @@ ghost use Rattle.model.specs.Calls.{walk_number, walk_given, walk_ended, walk_pl
 use answers::WalkAnswer;
 
 // What a step gives, and the place after it.
-#[derive(Drop)]
+#[derive(Clone, Copy)]
 pub struct Moved {
     pub answer: WalkAnswer,
     pub index: usize,
@@ -32,7 +34,7 @@ pub fn advance(schema: &[u64], table: &[u64], marks: &[u8], place: usize) -> Mov
 }
 
 // A reader's place in the list: the index of the record last given, 0 before the first.
-#[derive(Drop)]
+#[derive(Clone, Copy)]
 pub struct Place {
     pub index: usize,
 }

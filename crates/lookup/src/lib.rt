@@ -1,5 +1,7 @@
 // Known or not, sooner (document 02, F-6): a record looked up by relation and label. The header is tested, and of the records those that are
 // read.
+#![tactic(auto)]
+
 ghost use Rattle.std.specs.Prelude.{◌≡◌, true, cond, ◌≤◌, eqb, length};
 ghost use Rattle.crdt.specs.Labels.{largest_counter};
 ghost use Rattle.answers.specs.Told.{told, told_known, lookup_told};

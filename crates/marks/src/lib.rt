@@ -1,5 +1,7 @@
 // One byte per record, 1 for a member of a list of records and 0 for none; and the laws by which a chain is walked and by which
 // such bytes stand for a list.
+#![tactic(auto)]
+
 ghost use Rattle.std.specs.Prelude.{◌≡◌};
 ghost use Rattle.marks.specs.Marks.{is_marked};
 

@@ -1,4 +1,6 @@
 // Merging another table into the own: judge, then act (merge_act).
+#![tactic(auto)]
+
 ghost use Rattle.std.specs.Prelude.{◌≡◌, cond, ◌+◌, ◌≤◌, length};
 ghost use Rattle.answers.specs.Told.{told, merge_told};
 ghost use Rattle.model.specs.Layout.{most_relations, used_at};

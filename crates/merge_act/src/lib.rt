@@ -1,5 +1,7 @@
 // Merging a table into another where that is known to be allowed. Both tables' chains of a relation are walked side by side, so that a merge is
 // linear.
+#![tactic(auto)]
+
 ghost use Rattle.std.specs.Prelude.{◌≡◌, ◌+◌, max};
 ghost use Rattle.model.specs.Records.{place};
 ghost use Rattle.model.specs.Tables.{decode, encode};

@@ -1,4 +1,6 @@
 // A record of the other table joined into one of the own, register by register and flag by flag, and whether that changed it.
+#![tactic(auto)]
+
 ghost use Rattle.std.specs.Prelude.{◌≡◌, ◌≤◌};
 ghost use Rattle.crdt.specs.Flags.{largest_flag};
 ghost use Rattle.model.specs.Layout.{fields, most_records, flag_at};

@@ -1,5 +1,7 @@
 // Where a record of the other table belongs in the own, and the place made for it. A link is the index of the word that holds the number of
 // the next record: the first word of a relation, or the next word of a record.
+#![tactic(auto)]
+
 ghost use Rattle.std.specs.Prelude.{◌≡◌, ℕ, ◌≤◌};
 ghost use Rattle.model.specs.Layout.{most_relations, most_records, used_at};
 ghost use Rattle.model.specs.Records.{place, position};

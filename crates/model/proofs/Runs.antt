@@ -95,6 +95,7 @@ found n (k ∷ m) h = go (or_cases (eqb n k) (some_of (λ j. eqb n j) m) h) (fou
 
 within_found : (l m : List ℕ) → within l m ≡ true → (n : ℕ) → Memᴰ n l → Memᴰ n m
 unfolding within all_of
+within_found [] m h n x = elim x [ ]
 within_found (k ∷ l) m h n (Memᴰ.head e) = let g : some_of (λ j. eqb n j) m ≡ true = rw e (and_left (some_of (λ j. eqb k j) m) (within l m) h) in found n m g
 within_found (k ∷ l) m h n (Memᴰ.tail d) = within_found l m (and_right (some_of (λ j. eqb k j) m) (within l m) h) n d
 

@@ -1,4 +1,6 @@
 // References resolved: each reference of a table once, to the position of the record that it leads to.
+#![tactic(auto)]
+
 ghost use Rattle.std.specs.Prelude.{◌≡◌, ◌≤◌, ◌<◌, ◌+◌, ◌*◌, ◌-◌, length};
 ghost use Rattle.model.specs.Layout.{fields, most_relations, most_records, used_at, relation_at};
 ghost use Rattle.model.specs.Schemas.{abort_kinds};
@@ -18,7 +20,7 @@ const LABEL_SPAN: u64 = 0x1_0000_0000_0000;
 const HALF_WORD: u64 = 0x8000_0000_0000_0000;
 
 // The records of one relation: their part of the array of positions, from `from` to before `to`.
-#[derive(Drop)]
+#[derive(Clone, Copy)]
 struct Part {
     relation: u64,
     from: usize,

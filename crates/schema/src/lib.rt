@@ -1,4 +1,6 @@
 // The schema check: whether a slice is a whole schema that breaks no rule.
+#![tactic(auto)]
+
 ghost use Rattle.std.specs.Prelude.{◌≡◌, cond, ◌≤◌, leb, eqb};
 ghost use Rattle.answers.specs.Told.{told, schema_told};
 ghost use Rattle.model.specs.Layout.{fields, most_relations, relations, field_count, kind_at};

@@ -2,7 +2,7 @@
 -- Assumes nothing.
 use Prim.Native.Nat.{ℕ, zero, suc, ◌+◌}
 use mathlib.Core.Path.{◌≡◌, refl, ap}
-use mathlib.Core.Bool.{◌&&◌}
+use mathlib.Core.Bool.{Bool, ◌&&◌}
 use mathlib.Core.List.{List, [], ◌∷◌}
 use Rattle.model.specs.Layout.{fields, most_relations, base, block, capacity_of, used_at, first_at, next_at, relation_at, label_at, flag_at, value_at, stamp_at}
 use Rattle.model.specs.Layout.{field_count, kind_at, mask_at}
@@ -52,7 +52,7 @@ chain_same t r = from_same (used_at t + 1) t (first_at t r)
 rises_same : (t : List ℕ) (r low : ℕ) (l : List ℕ) → rises_in fields t r low l ≡ rises t r low l
 unfolding rises_in rises chain_step_in chain_step next_in next_at relation_in relation_at label_in label_at base_in base
 rises_same t r low [] = refl
-rises_same t r low (i ∷ is) = rw (rises_same t r _ is)
+rises_same t r low (i ∷ is) = ap (λ (b : Bool). chain_step t r low i && b) (rises_same t r (label_at t i) is)
 
 on_same : (t : List ℕ) (i : ℕ) → on_chain_in fields t i ≡ on_chain t i
 unfolding on_chain_in on_chain

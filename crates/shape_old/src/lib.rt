@@ -1,4 +1,6 @@
 // The old side of a turning, eight fields: its words, and its records and chains judged by what they are turned into.
+#![tactic(auto)]
+
 ghost use Rattle.std.specs.Prelude.{◌≡◌, true, false, ◌&&◌, ◌+◌, ◌≤◌, ◌^◌, length};
 ghost use Rattle.crdt.specs.Labels.{largest_counter};
 ghost use Rattle.model.specs.Layout.{fields, most_relations, most_records, block_words, schema_words, word, relations, clock_at, used_at};

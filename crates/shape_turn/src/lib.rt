@@ -1,4 +1,6 @@
 // Words of `v` fields written as words of `w` fields: a row, a block, a schema, a table.
+#![tactic(auto)]
+
 ghost use Rattle.std.specs.Prelude.{◌≡◌, true, cond, ◌+◌, ◌*◌, ◌≤◌, leb, length, drop};
 ghost use Rattle.std.proofs.Math.Seq.{paste};
 ghost use Rattle.model.specs.Layout.{fields, most_relations, most_records, header_words, head_words, word};

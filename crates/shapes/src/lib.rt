@@ -1,4 +1,6 @@
 // Between old and new tables: judge, then write.
+#![tactic(auto)]
+
 ghost use Rattle.std.specs.Prelude.{◌≡◌, ◌≤◌};
 ghost use Rattle.answers.specs.Told.{told, widen_told, narrow_told};
 ghost use Rattle.model.specs.Layout.{most_relations, relations};

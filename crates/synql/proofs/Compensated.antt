@@ -87,6 +87,7 @@ leading_later p c ks gs k (j, l, e, n, q) =
 
 leads_from : (p : ℕ → Bool) (ks : List ℕ) (gs : List Reg) (k : ℕ) → k ∈ leads p ks gs → Leading p ks gs k
 unfolding leads
+leads_from p [] gs k h = elim h [ ]
 leads_from p (c ∷ ks) gs k h = step (p c && not (eqb (value gs) 0)) refl h (leads_from p ks (rest gs) k)
   where
     step : (b : Bool) → (p c && not (eqb (value gs) 0)) ≡ b → k ∈ cond b (place (leads_to c) (value gs) ∷ leads p ks (rest gs)) (leads p ks (rest gs))
@@ -245,6 +246,7 @@ append_cases k (x ∷ l) m (Memᴰ.tail h) = go (append_cases k l m h)
     go (inr b) = inr b
 
 append_left : (k : ℕ) (l m : List ℕ) → k ∈ l → k ∈ (l ++ m)
+append_left k [] m x' = elim x' [ ]
 append_left k (x ∷ l) m (Memᴰ.head e) = Memᴰ.head e
 append_left k (x ∷ l) m (Memᴰ.tail h) = Memᴰ.tail (append_left k l m h)
 

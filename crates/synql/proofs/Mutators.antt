@@ -136,6 +136,12 @@ redone_at w c (j ∷ ks) k = rw (redone_at w c ks k) (go (test (eqb k j)) (some_
     go (inl p) false = let e : k ≡ j = eqb-true k j p in rw p (rw e (opt_none (X j)))
     go (inr p) t = rw p
 
+-- the flag of a tuple is that of its cell
+tuple_flag : (o : Option Cell) → paper.flag_in (tuple_opt o) ≡ flag_in o
+unfolding tuple_of
+tuple_flag none = refl
+tuple_flag (some c) = refl
+
 -- compensation: redoing is disable(delFlag), of flags below the largest
 pub redoing_compensates : (w : ℕ) (a : List Rec) (ks : List ℕ) → ((k : ℕ) → k ∈ ks → flag_of (in_order a) k < largest_flag) → database (redoing w (in_order a) ks) ≡ compensation (database a) (chosen ks)
 unfolding database compensation
@@ -149,12 +155,8 @@ redoing_compensates w a ks h = fun_ext λ r. fun_ext λ l. go r l (test (ltb l l
     member : (k : ℕ) → some_of (λ j. eqb k j) ks ≡ true → k ∈ ks
     member k e = Rattle.laws.proofs.Shown.listed k ks e
 
-    flags : (o : Option Cell) → paper.flag_in (tuple_opt o) ≡ flag_in o
-    flags none = refl
-    flags (some c) = unfold tuple_of in refl
-
     flag_is : (k : ℕ) → flag_of (in_order a) k ≡ paper.flag_in (tuple_opt (at k a))
-    flag_is k = unfold flag_of in (ap flag_in (at_order k a) ∙ sym (flags (at k a)))
+    flag_is k = unfold flag_of in (ap flag_in (at_order k a) ∙ sym (tuple_flag (at k a)))
 
     tuple : (k : ℕ) → k ∈ ks → tuple_of (flag_only w k (redone (flag_of (in_order a) k))).cell ≡ record { fields = no_fields; flag = disable (paper.flag_in (tuple_opt (at k a))) }
     tuple k m = unfold tuple_of flag_only in λ i. record { fields = no_fields_lem w i; flag = (redo_is_8 _ (h k m) ∙ ap disable (flag_is k)) i }

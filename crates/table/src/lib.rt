@@ -1,4 +1,6 @@
 // Well-formed tables: the chains, and table check.
+#![tactic(auto)]
+
 ghost use Rattle.std.specs.Prelude.{◌≡◌, true, false, ◌&&◌, ◌+◌, ◌-◌, ◌≤◌, length};
 ghost use Rattle.crdt.specs.Labels.{largest_counter};
 ghost use Rattle.answers.specs.Told.{told, table_told};
@@ -40,7 +42,7 @@ fn is_good(schema: &[u64], t: &[u64], r: usize, low: u64, i: usize) -> bool
 
 // Where a walk along a chain ends: at a record that is not good, at one whose label is not below the label looked for, or behind the last
 // record, with how many were read.
-#[derive(Drop)]
+#[derive(Clone, Copy)]
 pub enum Stop {
     Broken,
     At(usize),
@@ -73,7 +75,7 @@ pub fn walk_to(schema: &[u64], t: &[u64], r: usize, label: u64) -> Stop
 }
 
 // A chain that was walked: whether it rises and its records are good, and how many it holds.
-#[derive(Drop)]
+#[derive(Clone, Copy)]
 pub enum Walked {
     Broken,
     Whole(usize),

@@ -1,4 +1,6 @@
 // The rules of a table that stand apart from its chains: the header, the first indices, and each record by its own words.
+#![tactic(auto)]
+
 ghost use Rattle.std.specs.Prelude.{◌≡◌, true, false, ◌&&◌, ◌+◌, ◌-◌, ◌/◌, ◌≤◌, eqb, length};
 ghost use Rattle.crdt.specs.Labels.{largest_counter};
 ghost use Rattle.model.specs.Layout.{fields, most_relations, block_words, record_words, first_words, zero_words, schema_words, word, relations, capacity_of, clock_at};

@@ -1,4 +1,6 @@
 // Starting a table, and the values of a record as a part of the lent table.
+#![tactic(auto)]
+
 ghost use Rattle.std.specs.Prelude.{◌≡◌, ◌+◌, ◌*◌, ◌-◌, length, replicate};
 ghost use Rattle.answers.specs.Told.{told, start_told};
 ghost use Rattle.model.specs.Layout.{word_bytes};

@@ -1,5 +1,7 @@
 // Reads the vector stream of the calls between old and new tables from standard input, runs its items on the library and
 // compares what comes back. It prints the first ten mismatches and the counts.
+#![tactic(auto)]
+
 mod calls;
 
 use vector_stream::stream::Cursor;

@@ -1,0 +1,16 @@
+use Prim.Native.Nat.{ℕ, ◌≤◌, ◌<◌, ◌-◌, ◌*◌}
+use mathlib.Core.Path.{◌≡◌, refl, ◌∙◌}
+use borrow.Author.Count.{below_more}
+use native.Mathlib.Omega.{arith}
+use lib.ListN.{length, get_or, set, length-set}
+use lib.Seq.{get_or-set_same, get_or-set_other}
+use Rattle.model.specs.Layout.{word_bytes}
+use Rattle.codec.specs.Bytes.{word_at}
+use Rattle.codec.proofs.Words.{decoded}
+use Rattle.codec.proofs.decode.Given as goal
+
+abbrev pub invariant-loop-i : goal.invariant-loop-i
+invariant-loop-i l = (l.i ≤ length l.w) × (length l.w ≡ length l.initial.w) × ((k : ℕ) → k < l.i → get_or l.w k 0 ≡ word_at l.b (word_bytes * k))
+
+abbrev pub decreases-loop-i : goal.decreases-loop-i
+decreases-loop-i l = length l.w - l.i

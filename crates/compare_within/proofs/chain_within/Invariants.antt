@@ -1,0 +1,13 @@
+use mathlib.Core.Path.{refl}
+use borrow.Author.Tests.{not-true, not-false}
+use Rattle.compare_within.proofs.Forms.{chain_seek, chain_small, chain_turn, chain_stop, chain_done}
+use Rattle.merge_laws.specs.Absorb.{records_in, ahead}
+use Rattle.compare_laws.proofs.Steps.{Comparing, compare_start, compare_less}
+use borrow.Author.Rules.{rules}
+use Rattle.compare_within.proofs.chain_within.Given as goal
+
+abbrev pub invariant-loop-j : goal.invariant-loop-j
+invariant-loop-j l = Comparing l.second l.first l.relation l.j l.link
+
+abbrev pub decreases-loop-j : goal.decreases-loop-j
+decreases-loop-j l = ahead (records_in l.first) l.j

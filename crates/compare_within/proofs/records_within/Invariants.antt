@@ -1,0 +1,14 @@
+use Prim.Native.Nat.{◌≤◌, ◌+◌, ◌-◌}
+use native.Mathlib.Omega.{arith}
+use mathlib.Core.Path.{sym, ◌∙◌}
+use borrow.Author.Tests.{not-true, not-false}
+use Rattle.model.specs.Layout.{most_relations}
+use Rattle.compare_laws.proofs.Chains.{chain_fails}
+use Rattle.compare_within.proofs.Forms.{UpToBelow, below_first, below_next, below_all}
+use Rattle.compare_within.proofs.records_within.Given as goal
+
+abbrev pub invariant-loop-relation : goal.invariant-loop-relation
+invariant-loop-relation l = (1 ≤ l.relation) × (l.relation ≤ most_relations + 1) × UpToBelow l.second l.first l.relation
+
+abbrev pub decreases-loop-relation : goal.decreases-loop-relation
+decreases-loop-relation l = most_relations + 1 - l.relation

@@ -1,0 +1,35 @@
+-- `compare_within::rest_within` meets its contract. The loop's invariant: the first fields, at least half of them, are up to the other's.
+-- Assumes nothing.
+use Prim.Native.Nat.{◌≤◌, ◌-◌}
+use mathlib.Core.Path.{◌≡◌, sym, ◌∙◌}
+use mathlib.Core.Bool.{true}
+use native.Mathlib.Omega.{arith}
+use borrow.Author.Tests.{not-true, not-false}
+use Rattle.model.specs.Layout.{fields}
+use Rattle.compare_laws.specs.UpTo.{fields_up_to}
+use Rattle.compare_laws.proofs.Fields.{fields_more, fields_fail, fields_all}
+use Rattle.compare_within.proofs.rest_within.Goals as goal
+
+pub loop-done-init : goal.loop-done-init
+loop-done-init c = (omega arith, c.requires.2)
+
+pub overflow_add-done : goal.overflow_add-done
+overflow_add-done c = omega arith
+
+pub field_within-requires : goal.field_within-requires
+field_within-requires c = omega arith
+
+pub returns-then-not-field_within : goal.returns-then-not-field_within
+returns-then-not-field_within c = fields_fail _ _ _ _ _ c.loop-done-test.true (sym c.field_within.ensures ∙ c.if-not-field_within.true)
+
+pub overflow_add-done-in-loop-done : goal.overflow_add-done-in-loop-done
+overflow_add-done-in-loop-done c = omega arith
+
+pub loop-done-smaller : goal.loop-done-smaller
+loop-done-smaller c = omega arith
+
+pub loop-done-preserved : goal.loop-done-preserved
+loop-done-preserved c = (omega arith, fields_more _ _ _ _ _ c.loop-done.invariant.1 (sym c.field_within.ensures ∙ c.if-not-field_within.false))
+
+pub returns : goal.returns
+returns c = fields_all _ _ _ _ _ c.loop-done.invariant.0 c.loop-done-test.false c.loop-done.invariant.1

@@ -1,0 +1,15 @@
+use Prim.Native.Nat.{◌≤◌, ◌-◌}
+use mathlib.Core.Path.{◌≡◌, sym, ◌∙◌}
+use mathlib.Core.Bool.{true}
+use native.Mathlib.Omega.{arith}
+use borrow.Author.Tests.{not-true, not-false}
+use Rattle.model.specs.Layout.{fields}
+use Rattle.compare_laws.specs.UpTo.{fields_up_to}
+use Rattle.compare_laws.proofs.Fields.{fields_more, fields_fail, fields_all}
+use Rattle.compare_within.proofs.rest_within.Given as goal
+
+abbrev pub invariant-loop-done : goal.invariant-loop-done
+invariant-loop-done l = (l.done ≤ fields) × (true ≡ fields_up_to l.done l.first l.p l.second l.q)
+
+abbrev pub decreases-loop-done : goal.decreases-loop-done
+decreases-loop-done l = fields - l.done

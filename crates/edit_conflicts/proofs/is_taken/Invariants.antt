@@ -1,0 +1,16 @@
+use Prim.Native.Nat.{ℕ, ◌≤◌, ◌+◌, ◌-◌}
+use mathlib.Core.Path.{◌≡◌, sym, ◌∙◌}
+use mathlib.Core.Bool.{◌&&◌}
+use native.Mathlib.Omega.{arith}
+use Rattle.model.specs.Layout.{used_at}
+use Rattle.marks.specs.Marks.{is_marked}
+use Rattle.edit_basics.proofs.Turns.{NoneTo, none_start, none_more}
+use Rattle.edit_laws.specs.Clash.{clashes}
+use Rattle.edit_laws.proofs.Clash.{stand_found, stand_none}
+use Rattle.edit_conflicts.proofs.is_taken.Given as goal
+
+abbrev pub invariant-loop-y : goal.invariant-loop-y
+invariant-loop-y l = (l.y ≤ l.used) × (l.used ≡ used_at l.table) × NoneTo (λ z. is_marked l.stands z && clashes l.schema l.table l.r l.first l.second l.but l.values z) l.y
+
+abbrev pub decreases-loop-y : goal.decreases-loop-y
+decreases-loop-y l = l.used - l.y

@@ -1,0 +1,29 @@
+-- `edit_delta::draft_chain` meets its contract.
+-- Assumes nothing.
+use Prim.Native.Nat.{◌-◌}
+use mathlib.Core.Path.{◌≡◌}
+use native.Mathlib.Omega.{arith}
+use Rattle.model.specs.Tables.{encode}
+use Rattle.edit_delta.specs.Drafting.{key_of, drafted, end_of}
+use Rattle.edit_delta.proofs.Steps.{cursor, Stands}
+use Rattle.edit_delta.proofs.Turns.{same_words_lem, chain_starts, chain_steppable, chain_turns, chain_less, chain_ends}
+use borrow.Author.Rules.{rules}
+use Rattle.edit_delta.proofs.draft_chain.Goals as goal
+
+pub loop-i-init : goal.loop-i-init
+loop-i-init c = chain_starts _ _ c.requires.0.source _ _ c.requires.0.edited _ c.requires.1 c.requires.2 _ _ c.requires.0.words c.first_at-i.ensures
+
+pub draft_record-requires : goal.draft_record-requires
+draft_record-requires c = chain_steppable _ _ c.requires.0.source _ _ c.requires.0.edited _ c.requires.1 c.requires.2 _ _ c.loop-i-test.true c.loop-i.invariant.0 c.loop-i.invariant.1
+
+pub loop-i-smaller : goal.loop-i-smaller
+loop-i-smaller c = chain_less _ _ c.requires.0.source _ _ c.requires.0.edited _ c.requires.1 c.requires.2 _ _ c.loop-i-test.true c.loop-i.invariant.0 c.loop-i.invariant.1 _ c.next_at-i.ensures
+
+pub loop-i-preserved : goal.loop-i-preserved
+loop-i-preserved c = chain_turns _ _ c.requires.0.source _ _ c.requires.0.edited _ c.requires.1 c.requires.2 _ _ c.loop-i-test.true c.loop-i.invariant.0 c.loop-i.invariant.1 _ _ c.draft_record.ensures c.next_at-i.ensures
+
+pub shape_of-delta : goal.shape_of-delta
+shape_of-delta c = same_words_lem _ _ c.requires.0.source _ _ c.requires.0.edited _ _ _ _ c.requires.0.words c.loop-i.invariant.1
+
+pub returns : goal.returns
+returns c = chain_ends _ _ c.requires.0.source _ _ c.requires.0.edited _ c.requires.1 c.requires.2 _ _ (omega arith) c.loop-i.invariant.1

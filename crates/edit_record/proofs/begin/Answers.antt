@@ -1,0 +1,8 @@
+-- `edit_record::begin` meets its contract.
+-- Assumes nothing.
+use Rattle.edit_record.proofs.Words.{begun}
+use borrow.Author.Rules.{rules}
+use Rattle.edit_record.proofs.begin.Goals as goal
+
+pub returns : goal.returns
+returns c = begun c.args.delta.now _ _ _ _ _ c.requires c.clear.ensures c.store.ensures c.store-2.ensures

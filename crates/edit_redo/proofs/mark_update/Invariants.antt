@@ -1,0 +1,19 @@
+use Prim.Native.Nat.{ℕ, ◌≤◌, ◌+◌, ◌-◌}
+use mathlib.Core.Path.{◌≡◌, refl, sym, ◌∙◌, ap}
+use mathlib.Core.Bool.{Bool, cond}
+use native.Mathlib.Omega.{arith}
+use lib.ListN.{length, length-set}
+use Rattle.model.specs.Layout.{used_at, most_records}
+use Rattle.model.specs.Schemas.{schema_of}
+use Rattle.model.specs.Tables.{record_of}
+use Rattle.model.specs.Edits.{update_redoes, deletion_redoes}
+use Rattle.references.proofs.Places.{used_most}
+use Rattle.edit_basics.specs.Targets.{held}
+use Rattle.edit_laws.proofs.Picks.{Filled, filled_more, filled_picked, pick_of}
+use Rattle.edit_redo.proofs.mark_update.Given as goal
+
+abbrev pub invariant-loop-p : goal.invariant-loop-p
+invariant-loop-p l = (l.p ≤ l.used) × (l.used ≡ used_at l.table) × (length l.redo ≡ length l.initial.redo) × Filled (pick_of l.table (update_redoes (schema_of l.schema) (held l.table) (record_of l.table l.i) l.kind l.old l.new)) l.redo l.p
+
+abbrev pub decreases-loop-p : goal.decreases-loop-p
+decreases-loop-p l = l.used - l.p

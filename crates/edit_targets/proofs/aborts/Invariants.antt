@@ -1,0 +1,18 @@
+use Prim.Native.Nat.{ℕ, ◌≤◌, ◌+◌, ◌-◌}
+use mathlib.Core.Path.{◌≡◌, sym, ◌∙◌, ap}
+use mathlib.Core.Bool.{true}
+use native.Mathlib.Omega.{arith}
+use Rattle.crdt.proofs.Tests.{and_left}
+use Rattle.model.specs.Layout.{field_count, relation_at}
+use Rattle.model.specs.Schemas.{is_reference, is_abort, abort_kinds}
+use Rattle.references.proofs.Places.{used_most, fields_most}
+use Rattle.edit_basics.specs.Targets.{meets}
+use Rattle.edit_basics.proofs.Turns.{NoneTo, none_start, none_more}
+use Rattle.edit_basics.proofs.Refs.{refers_found, refers_none}
+use Rattle.edit_targets.proofs.aborts.Given as goal
+
+abbrev pub invariant-loop-j : goal.invariant-loop-j
+invariant-loop-j l = (l.j ≤ l.count) × (l.count ≡ field_count l.schema (relation_at l.table l.i)) × NoneTo (meets is_abort l.schema l.table l.refs l.i l.p) l.j
+
+abbrev pub decreases-loop-j : goal.decreases-loop-j
+decreases-loop-j l = l.count - l.j

@@ -1,0 +1,33 @@
+-- `edit_targets::targets_shown` meets its contract.
+-- Assumes nothing.
+use Prim.Native.Nat.{◌≤◌, ◌-◌}
+use mathlib.Core.Path.{◌≡◌, sym, ◌∙◌, ap}
+use mathlib.Core.Bool.{true}
+use native.Mathlib.Omega.{arith}
+use lib.ListN.{length}
+use Rattle.crdt.proofs.Tests.{not_true}
+use Rattle.model.specs.Layout.{field_count, kind_at}
+use Rattle.model.specs.Lists.{all_of}
+use Rattle.model.specs.Schemas.{is_reference, schema_of}
+use Rattle.model.specs.Records.{has}
+use Rattle.model.specs.Shown.{leads, shown}
+use Rattle.edit_basics.specs.Targets.{kinds_of, bare, held}
+use Rattle.edit_basics.proofs.Turns.{not_left}
+use Rattle.edit_basics.proofs.Values.{values_fit, rules, rules_start, rule_now, rule_next, ahead, ahead_start, all_stop, all_go, all_end}
+use Rattle.std.proofs.lemmas.Bool.{not_from_true}
+use Rattle.edit_targets.proofs.targets_shown.Goals as goal
+
+pub loop-j-init : goal.loop-j-init
+loop-j-init c = (omega arith, values_fit _ _ _ c.requires.2, sym (rules_start _ _ _) ∙ c.requires.2, ap (all_of _) (ahead_start _ _ _))
+
+pub target_shown-requires : goal.target_shown-requires
+target_shown-requires c = (c.requires.0, c.requires.1, rule_now _ _ _ _ _ (omega arith) (omega arith) c.kind_at.ensures c.loop-j.invariant.2)
+
+pub returns-then-not-target_shown : goal.returns-then-not-target_shown
+returns-then-not-target_shown c = all_stop _ _ _ _ _ (omega arith) (omega arith) c.kind_at.ensures _ _ _ c.loop-j.invariant.3 c.target_shown.ensures (c.if-not-target_shown.true)
+
+pub loop-j-preserved : goal.loop-j-preserved
+loop-j-preserved c = (omega arith, c.loop-j.invariant.1, rule_next _ _ _ _ _ (omega arith) (omega arith) c.kind_at.ensures c.loop-j.invariant.2, all_go _ _ _ _ _ (omega arith) (omega arith) c.kind_at.ensures _ _ _ c.loop-j.invariant.3 c.target_shown.ensures (not_left _ (not_from_true _ c.if-not-target_shown.false)))
+
+pub returns : goal.returns
+returns c = all_end _ _ _ _ _ _ c.loop-j.invariant.3 (omega arith)

@@ -1,0 +1,21 @@
+use Prim.Native.Nat.{◌≤◌, ◌-◌}
+use mathlib.Core.Path.{◌≡◌, sym, ◌∙◌, ap}
+use mathlib.Core.Bool.{true}
+use native.Mathlib.Omega.{arith}
+use lib.ListN.{length}
+use Rattle.crdt.proofs.Tests.{not_true}
+use Rattle.model.specs.Layout.{field_count, kind_at}
+use Rattle.model.specs.Lists.{all_of}
+use Rattle.model.specs.Schemas.{is_reference, schema_of}
+use Rattle.model.specs.Records.{has}
+use Rattle.model.specs.Shown.{leads, shown}
+use Rattle.edit_basics.specs.Targets.{kinds_of, bare, held}
+use Rattle.edit_basics.proofs.Turns.{not_left}
+use Rattle.edit_basics.proofs.Values.{values_fit, rules, rules_start, rule_now, rule_next, ahead, ahead_start, all_stop, all_go, all_end}
+use Rattle.edit_targets.proofs.targets_shown.Given as goal
+
+abbrev pub invariant-loop-j : goal.invariant-loop-j
+invariant-loop-j l = (l.j ≤ length l.values) × (length l.values ≡ field_count l.schema l.r) × (rules (kind_at l.schema l.r) (field_count l.schema l.r) l.values l.j ≡ true) × (all_of (has (shown (schema_of l.schema) (held l.table))) (leads is_reference (kinds_of l.schema l.r) (bare l.values)) ≡ all_of (has (shown (schema_of l.schema) (held l.table))) (ahead (kind_at l.schema l.r) (field_count l.schema l.r) l.values l.j))
+
+abbrev pub decreases-loop-j : goal.decreases-loop-j
+decreases-loop-j l = length l.values - l.j

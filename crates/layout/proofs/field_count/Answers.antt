@@ -1,0 +1,11 @@
+-- `layout::field_count` meets its contract.
+-- Assumes nothing.
+use native.Mathlib.Omega.{arith}
+use Rattle.model.specs.Layout.{field_count}
+use Rattle.layout.proofs.Words.{word_at}
+use borrow.Author.Rules.{rules}
+use Rattle.layout.proofs.field_count.Goals as goal
+
+pub returns : goal.returns
+unfolding field_count
+returns c = word_at _ _ _ _ (omega arith) c.block_word.ensures

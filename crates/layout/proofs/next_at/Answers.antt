@@ -1,0 +1,11 @@
+-- `layout::next_at` meets its contract.
+-- Assumes nothing.
+use native.Mathlib.Omega.{arith}
+use Rattle.model.specs.Layout.{next_at}
+use Rattle.layout.proofs.Words.{word_at}
+use borrow.Author.Rules.{rules}
+use Rattle.layout.proofs.next_at.Goals as goal
+
+pub returns : goal.returns
+unfolding next_at
+returns c = word_at _ _ _ _ (omega arith) c.record_word.ensures

@@ -1,0 +1,9 @@
+-- `layout::relations` meets its contract.
+-- Assumes nothing.
+use Rattle.model.specs.Layout.{relations}
+use borrow.Author.Rules.{rules}
+use Rattle.layout.proofs.relations.Goals as goal
+
+pub returns : goal.returns
+unfolding relations
+returns c = c.word.ensures

@@ -1,0 +1,9 @@
+-- `layout::used` meets its contract.
+-- Assumes nothing.
+use Rattle.model.specs.Layout.{used_at}
+use borrow.Author.Rules.{rules}
+use Rattle.layout.proofs.used.Goals as goal
+
+pub returns : goal.returns
+unfolding used_at
+returns c = c.word.ensures

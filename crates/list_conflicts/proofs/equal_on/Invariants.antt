@@ -1,0 +1,17 @@
+use Prim.Native.Nat.{◌≤◌, ◌-◌}
+use mathlib.Core.Path.{◌≡◌, sym, ◌∙◌}
+use native.Mathlib.Omega.{arith}
+use borrow.Author.Tests.{not-true, not-false}
+use Rattle.model.specs.Layout.{field_count, kind_at}
+use Rattle.model.specs.Lists.{listed}
+use Rattle.model.specs.Shown.{equal_on}
+use Rattle.list_conflicts.specs.Keys.{registers}
+use Rattle.list_conflicts.proofs.Keys.{onward, onward_start, onward_end, turn_stops, turn_goes}
+use borrow.Author.Rules.{rules}
+use Rattle.list_conflicts.proofs.equal_on.Given as goal
+
+abbrev pub invariant-loop-j : goal.invariant-loop-j
+invariant-loop-j l = (l.j ≤ l.count) × (equal_on l.mask (listed (field_count l.schema l.r) (kind_at l.schema l.r)) (registers l.a) (registers l.b) ≡ onward (kind_at l.schema l.r) (field_count l.schema l.r) l.a l.b l.m l.j)
+
+abbrev pub decreases-loop-j : goal.decreases-loop-j
+decreases-loop-j l = l.count - l.j

@@ -1,0 +1,12 @@
+-- `list_step::next_relation` meets its contract.
+-- Assumes nothing.
+use mathlib.Core.Path.{refl}
+use Rattle.list_step.proofs.Cursor.{zero_pick, more_pick}
+use borrow.Author.Rules.{rules}
+use Rattle.list_step.proofs.next_relation.Goals as goal
+
+pub returns-then-i-eq0 : goal.returns-then-i-eq0
+returns-then-i-eq0 c = zero_pick _ _ _ _ c.if-i-eq0.true refl
+
+pub returns : goal.returns
+returns c = more_pick _ _ _ _ c.if-i-eq0.false refl

@@ -1,0 +1,11 @@
+-- `list_text::reference` meets its contract.
+-- Assumes nothing.
+use Rattle.list_text.proofs.Fields.{placed_empty, placed_reference}
+use borrow.Author.Rules.{rules}
+use Rattle.list_text.proofs.reference.Goals as goal
+
+pub returns-then-x-eq0 : goal.returns-then-x-eq0
+returns-then-x-eq0 c = placed_empty _ c.if-x-eq0.true c.put.ensures
+
+pub returns : goal.returns
+returns c = placed_reference _ c.if-x-eq0.false c.label.ensures

@@ -1,0 +1,16 @@
+use Prim.Native.Nat.{◌≤◌, ◌-◌}
+use mathlib.Core.Path.{◌≡◌}
+use native.Mathlib.Omega.{arith}
+use Rattle.model.specs.Layout.{field_count, kind_at, value_at}
+use Rattle.model.specs.Lists.{listed}
+use Rattle.list_text.specs.Text.{values_text}
+use Rattle.list_text.proofs.Laying.{Leads, leads_start, leads_as}
+use Rattle.list_text.proofs.Fields.{rest, rest_start, values_on, values_end}
+use borrow.Author.Rules.{rules}
+use Rattle.list_text.proofs.values.Given as goal
+
+abbrev pub invariant-loop-j : goal.invariant-loop-j
+invariant-loop-j l = (l.j ≤ l.count) × (l.count ≡ field_count l.schema l.relation) × Leads l.initial.out l.at (values_text (listed (field_count l.schema l.relation) (kind_at l.schema l.relation)) (listed (field_count l.schema l.relation) (value_at l.table l.i))) l.out l.to (rest (kind_at l.schema l.relation) (value_at l.table l.i) (field_count l.schema l.relation) l.j)
+
+abbrev pub decreases-loop-j : goal.decreases-loop-j
+decreases-loop-j l = l.count - l.j

@@ -1,0 +1,36 @@
+-- `merge::judge` meets its contract. Each answer is the lowest check that applies.
+-- Assumes nothing.
+use Prim.Native.Nat.{ℕ}
+use mathlib.Core.Path.{ap, sym, ◌∙◌}
+use borrow.Author.Tests.{not-true, not-false}
+use Rattle.answers.specs.Told.{told}
+use Rattle.merge_laws.proofs.Wholes.{lengths_are, first_asked, second_asked, both_whole}
+use Rattle.merge.proofs.Answers.{number_1, number_2, number_3, number_4, number_11, number_0}
+use Rattle.merge.proofs.judge.Goals as goal
+
+pub returns-then-not-lengths : goal.returns-then-not-lengths
+returns-then-not-lengths c = ap (λ (n : ℕ). told n 0) (number_1 _ _ _ (sym (lengths_are _ _ _ _ _ _ c.schema_length.ensures c.table_length.ensures c.table_length-2.ensures) ∙ c.if-not-lengths.true))
+
+pub returns-then-is_broken : goal.returns-then-is_broken
+returns-then-is_broken c = let l = sym (lengths_are _ _ _ _ _ _ c.schema_length.ensures c.table_length.ensures c.table_length-2.ensures) ∙ c.if-not-lengths.false in ap (λ (n : ℕ). told n 0) (number_2 _ _ _ l (sym c.is_broken.ensures ∙ c.if-is_broken.true))
+
+pub well_formed-requires : goal.well_formed-requires
+well_formed-requires c = let l = sym (lengths_are _ _ _ _ _ _ c.schema_length.ensures c.table_length.ensures c.table_length-2.ensures) ∙ c.if-not-lengths.false in let nb = sym c.is_broken.ensures ∙ c.if-is_broken.false in first_asked _ _ _ l nb
+
+pub returns-then-not-well_formed : goal.returns-then-not-well_formed
+returns-then-not-well_formed c = let l = sym (lengths_are _ _ _ _ _ _ c.schema_length.ensures c.table_length.ensures c.table_length-2.ensures) ∙ c.if-not-lengths.false in let nb = sym c.is_broken.ensures ∙ c.if-is_broken.false in ap (λ (n : ℕ). told n 0) (number_3 _ _ _ l nb (sym c.well_formed-2.ensures ∙ c.if-not-well_formed.true))
+
+pub well_formed-requires-2 : goal.well_formed-requires-2
+well_formed-requires-2 c = let l = sym (lengths_are _ _ _ _ _ _ c.schema_length.ensures c.table_length.ensures c.table_length-2.ensures) ∙ c.if-not-lengths.false in let nb = sym c.is_broken.ensures ∙ c.if-is_broken.false in second_asked _ _ _ l nb
+
+pub returns-then-not-well_formed-2 : goal.returns-then-not-well_formed-2
+returns-then-not-well_formed-2 c = let l = sym (lengths_are _ _ _ _ _ _ c.schema_length.ensures c.table_length.ensures c.table_length-2.ensures) ∙ c.if-not-lengths.false in let nb = sym c.is_broken.ensures ∙ c.if-is_broken.false in let wt = sym c.well_formed-2.ensures ∙ c.if-not-well_formed.false in ap (λ (n : ℕ). told n 0) (number_4 _ _ _ l nb wt (sym c.well_formed-3.ensures ∙ c.if-not-well_formed-2.true))
+
+pub is_full-requires : goal.is_full-requires
+is_full-requires c = let l = sym (lengths_are _ _ _ _ _ _ c.schema_length.ensures c.table_length.ensures c.table_length-2.ensures) ∙ c.if-not-lengths.false in let nb = sym c.is_broken.ensures ∙ c.if-is_broken.false in let wt = sym c.well_formed-2.ensures ∙ c.if-not-well_formed.false in let wb = sym c.well_formed-3.ensures ∙ c.if-not-well_formed-2.false in both_whole _ _ _ l nb wt wb
+
+pub returns-then-is_full : goal.returns-then-is_full
+returns-then-is_full c = let l = sym (lengths_are _ _ _ _ _ _ c.schema_length.ensures c.table_length.ensures c.table_length-2.ensures) ∙ c.if-not-lengths.false in let nb = sym c.is_broken.ensures ∙ c.if-is_broken.false in let wt = sym c.well_formed-2.ensures ∙ c.if-not-well_formed.false in let wb = sym c.well_formed-3.ensures ∙ c.if-not-well_formed-2.false in ap (λ (n : ℕ). told n 0) (number_11 _ _ _ l nb wt wb (sym c.is_full.ensures ∙ c.if-is_full.true))
+
+pub returns : goal.returns
+returns c = let l = sym (lengths_are _ _ _ _ _ _ c.schema_length.ensures c.table_length.ensures c.table_length-2.ensures) ∙ c.if-not-lengths.false in let nb = sym c.is_broken.ensures ∙ c.if-is_broken.false in let wt = sym c.well_formed-2.ensures ∙ c.if-not-well_formed.false in let wb = sym c.well_formed-3.ensures ∙ c.if-not-well_formed-2.false in ap (λ (n : ℕ). told n 0) (number_0 _ _ _ l nb wt wb (sym c.is_full.ensures ∙ c.if-is_full.false))

@@ -1,0 +1,17 @@
+use Prim.Native.Nat.{◌≤◌, ◌+◌, ◌-◌}
+use mathlib.Core.Path.{◌≡◌, refl, ◌∙◌}
+use native.Mathlib.Omega.{arith}
+use lib.ListN.{length}
+use Rattle.model.specs.Layout.{most_relations}
+use Rattle.model.specs.Records.{place}
+use Rattle.merge_laws.specs.Absorb.{records_in, Taken}
+use Rattle.merge_laws.proofs.Chain.{taken_none, taken_more, taken_within, chained}
+use Rattle.merge_act.proofs.Forms.{chains_all, chains_count}
+use borrow.Author.Rules.{rules}
+use Rattle.merge_act.proofs.take_chains.Given as goal
+
+abbrev pub invariant-loop-relation : goal.invariant-loop-relation
+invariant-loop-relation l = (length l.own ≡ length l.initial.own) × (1 ≤ l.relation) × (l.relation ≤ most_relations + 1) × Taken l.initial.own l.own (records_in l.other) (place 1 0) (place l.relation 0) l.count
+
+abbrev pub decreases-loop-relation : goal.decreases-loop-relation
+decreases-loop-relation l = most_relations + 1 - l.relation

@@ -1,0 +1,12 @@
+use Prim.Native.Nat.{◌/◌, ◌-◌}
+use mathlib.Core.Path.{refl}
+use native.Mathlib.Omega.{arith}
+use Rattle.references.proofs.Search.{Between, between_end, between_step, cut_most}
+use borrow.Author.Rules.{rules}
+use Rattle.references.proofs.lower.Given as goal
+
+abbrev pub invariant-loop-rest : goal.invariant-loop-rest
+invariant-loop-rest l = Between l.keys l.from l.to l.key l.high l.rest
+
+abbrev pub decreases-loop-rest : goal.decreases-loop-rest
+decreases-loop-rest l = l.rest

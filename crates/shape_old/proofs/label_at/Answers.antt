@@ -1,0 +1,11 @@
+-- `shape_old::label_at` meets its contract.
+-- Assumes nothing.
+use native.Mathlib.Omega.{arith}
+use Rattle.model.specs.Shapes.{label_in}
+use Rattle.layout.proofs.Words.{word_at}
+use borrow.Author.Rules.{rules}
+use Rattle.shape_old.proofs.label_at.Goals as goal
+
+pub returns : goal.returns
+unfolding label_in
+returns c = word_at _ _ _ _ (omega arith) c.record_word.ensures

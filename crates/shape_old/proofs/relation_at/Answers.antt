@@ -1,0 +1,11 @@
+-- `shape_old::relation_at` meets its contract.
+-- Assumes nothing.
+use native.Mathlib.Omega.{arith}
+use Rattle.model.specs.Shapes.{relation_in}
+use Rattle.layout.proofs.Words.{word_at}
+use borrow.Author.Rules.{rules}
+use Rattle.shape_old.proofs.relation_at.Goals as goal
+
+pub returns : goal.returns
+unfolding relation_in
+returns c = word_at _ _ _ _ (omega arith) c.record_word.ensures

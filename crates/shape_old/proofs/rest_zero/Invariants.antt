@@ -1,0 +1,19 @@
+use Prim.Native.Nat.{◌-◌}
+use mathlib.Core.Path.{◌≡◌}
+use mathlib.Core.Bool.{◌&&◌}
+use lib.Dec.{eqb}
+use lib.ListN.{length, drop}
+use Rattle.model.specs.Lists.{all_of}
+use Rattle.model.specs.WellFormed.{rest_zero}
+use Rattle.model.specs.Layout.{fields}
+use Rattle.model.specs.Shapes.{old_fields, turned_table}
+use Rattle.table_rules.proofs.Rules.{rest_next, rest_last}
+use Rattle.shape_old.proofs.Forms.{rest_begins}
+use borrow.Author.Rules.{rules}
+use Rattle.shape_old.proofs.rest_zero.Given as goal
+
+abbrev pub invariant-loop-k : goal.invariant-loop-k
+invariant-loop-k l = (l.good && all_of (λ x. eqb x 0) (drop l.k l.t)) ≡ rest_zero (turned_table old_fields fields l.t)
+
+abbrev pub decreases-loop-k : goal.decreases-loop-k
+decreases-loop-k l = length l.t - l.k

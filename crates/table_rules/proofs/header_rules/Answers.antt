@@ -1,0 +1,10 @@
+-- `table_rules::header_rules` meets its contract.
+-- Assumes nothing.
+use Rattle.table_rules.proofs.Rules.{header_tested}
+use borrow.Author.Rules.{rules}
+use Rattle.table_rules.proofs.header_rules.Goals as goal
+
+pub returns : goal.returns
+returns c =
+    header_tested _ _ _ _ _ _ _ c.replica-replica.ensures c.clock-clock.ensures c.used.ensures c.capacity.ensures c.word-third.ensures
+    c.zero_words-zeros.ensures
