@@ -120,8 +120,10 @@ class Function:
 def comment_above(path, at):
     """The comment above a line, as one line without its last full stop."""
     lines, found = lines_of(path), []
-    while at > 0 and re.match(r"^\s*(//|#\[)", lines[at - 1]):
+    while at > 0 and re.match(r"^\s*(//|#\[|\)\]$)", lines[at - 1]):
         at -= 1
+        if lines[at].strip() == ")]":  # an attribute on several lines
+            at = next(above for above in range(at, -1, -1) if lines[above].lstrip().startswith("#["))
         found[:0] = [re.sub(r"^\s*// ?", "", lines[at])] if lines[at].lstrip().startswith("//") else []
     return squeeze(" ".join(found)).rstrip(".")
 
