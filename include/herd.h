@@ -17,7 +17,7 @@
  * that is not kept hides nobody, but its keys stay taken (HERD_CONFLICT). The kept records whose references all lead to shown records are
  * shown. An empty reference (0) leads nowhere and is fine, but a key with one is no key.
  *
- * Link with libherd.a (rt staticlib herd, or tools/install and pkg-config). Its objects are for x86-64 Linux. Of the C library it needs
+ * Link with libherd.a (tools/archive, or tools/install and pkg-config). Its objects are for x86-64 Linux. Of the C library it needs
  * memset and the like, and nothing else. At start-up compare the library with this header (herd_version_fits).
  *
  * herdbook.h has the herd book of a barn above these calls: a fixed schema, and calls in the barn's own words. docs/CALLS.md tells with

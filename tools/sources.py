@@ -6,7 +6,7 @@ import glob
 import os
 import re
 
-WORD = r"[\w′·-]+"
+WORD = r"[\w'-]+"
 
 
 def squeeze(text):
@@ -66,7 +66,7 @@ def module_at(lines, at):
 def declaration(lines, at, name):
     """The lines of the declaration of a name that begins here: deeper ones, and its clauses."""
     depth, end = indent(lines[at]), at + 1
-    begins = r"\s*(unfolding |" + re.escape(name) + r"(\s|$))" if "_" not in name else r"\s*(unfolding |\S+ " + re.escape(name.strip("_")) + r" \S+ =)"
+    begins = r"\s*(unfolding |" + re.escape(name) + r"(\s|$))" if "◌" not in name else r"\s*(unfolding |\S+ " + re.escape(name.strip("◌")) + r" \S+ =)"
     while end < len(lines):
         blank = not lines[end].strip()
         line = lines[min(end + 1, len(lines) - 1)] if blank else lines[end]
@@ -120,10 +120,36 @@ class Function:
 def comment_above(path, at):
     """The comment above a line, as one line without its last full stop."""
     lines, found = lines_of(path), []
-    while at > 0 and re.match(r"^\s*(//|#\[)", lines[at - 1]):
+    while at > 0 and re.match(r"^\s*(//|#\[|\)\]$)", lines[at - 1]):
         at -= 1
+        if lines[at].strip() == ")]":  # an attribute on several lines
+            at = next(above for above in range(at, -1, -1) if lines[above].lstrip().startswith("#["))
         found[:0] = [re.sub(r"^\s*// ?", "", lines[at])] if lines[at].lstrip().startswith("//") else []
     return squeeze(" ".join(found)).rstrip(".")
+
+
+CLAUSE = re.compile(r"\s*(?:(?:requires|ensures)\*?(?: \w+)? )\{")
+
+
+def closed(text, at):
+    """Where the brace that stands here is closed, behind it."""
+    depth = 0
+    for end in range(at, len(text)):
+        depth += {"{": 1, "}": -1}.get(text[end], 0)
+        if not depth:
+            return end + 1
+    return len(text)
+
+
+def head_of(text):
+    """The signature and the clauses of the function that begins a text."""
+    at = re.search(r"\s(?=(?:requires|ensures)\b|\{)|;\n|\Z", text).start()
+    found = [squeeze(text[:at])]
+    while told := CLAUSE.match(text, at):
+        end = closed(text, told.end() - 1)
+        found.append(squeeze(text[at:end]))
+        at = end
+    return found
 
 
 @functools.cache
@@ -134,10 +160,7 @@ def functions(path):
         owner = told.group(1) if told else None if line.startswith("}") else owner
         told = re.match(r"^(\s*)(pub )?(extern \"C\" )?fn (\w+)", line)
         if told:
-            end = at
-            while end < len(lines) and not re.match(r"^\s*\{", lines[end]) and not lines[end].endswith(" {"):
-                end += 1
-            signature, *clauses = re.split(r" (?=(?:requires|ensures) )", squeeze(" ".join(lines[at:end + 1])).rstrip("{ "))
+            signature, *clauses = head_of("\n".join(lines[at:]))
             name = told.group(4) if owner is None or not told.group(1) else owner + "::" + told.group(4)
             signature = re.sub(r"\( ", "(", re.sub(r",? \)", ")", signature))
             found.append(Function(name, bool(told.group(2)), bool(told.group(3)), signature, clauses, comment_above(path, at)))
@@ -169,8 +192,9 @@ def sources():
 
 def file_of(module):
     """The file of a module of the project; of a module of the kit the module itself."""
-    told = re.match(r"^Rattle·([^.·]+)(?:·\w+)?\.(specs|proofs)\.(.+)$", module)
-    return "crates/{}/{}/{}.antt".format(told.group(1), told.group(2), told.group(3).replace(".", "/")) if told else module
+    told = re.match(r"^Rattle\.([^.]+)\.(specs|proofs)\.(.+)$", module)
+    ours = told and os.path.isdir("crates/" + told.group(1))
+    return "crates/{}/{}/{}.antt".format(told.group(1), told.group(2), told.group(3).replace(".", "/")) if ours else module
 
 
 @functools.cache

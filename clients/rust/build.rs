@@ -16,7 +16,7 @@ fn main() {
         println!("cargo:rerun-if-changed={}", archive.display());
         if !archive.is_file() {
             eprintln!("herd: there is no {}", archive.display());
-            eprintln!("herd: run `rt staticlib {name}` in the repository, or set HERD_LIB_DIR to the folder of lib{name}.a");
+            eprintln!("herd: run `tools/archive` in the repository, or set HERD_LIB_DIR to the folder of lib{name}.a");
             std::process::exit(1);
         }
         println!("cargo:rustc-link-lib=static={name}");
