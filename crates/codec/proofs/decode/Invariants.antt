@@ -1,12 +1,8 @@
 use Prim.Native.Nat.{ℕ, ◌≤◌, ◌<◌, ◌-◌, ◌*◌}
-use mathlib.Core.Path.{◌≡◌, refl, ◌∙◌}
-use borrow.Author.Count.{below_more}
-use native.Mathlib.Omega.{arith}
-use lib.ListN.{length, get_or, set, length-set}
-use lib.Seq.{get_or-set_same, get_or-set_other}
+use mathlib.Core.Path.{◌≡◌}
+use lib.ListN.{length, get_or}
 use Rattle.model.specs.Layout.{word_bytes}
 use Rattle.codec.specs.Bytes.{word_at}
-use Rattle.codec.proofs.Words.{decoded}
 use Rattle.codec.proofs.decode.Given as goal
 
 abbrev pub invariant-loop-i : goal.invariant-loop-i

@@ -1,7 +1,6 @@
 -- `codec::load` meets its contract.
 -- Assumes nothing.
 use Rattle.codec.proofs.Words.{load_room, load_words}
-use borrow.Author.Rules.{rules}
 use Rattle.codec.proofs.load.Goals as goal
 
 pub decode-requires : goal.decode-requires

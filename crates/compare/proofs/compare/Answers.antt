@@ -1,10 +1,8 @@
 -- `compare::compare` meets its contract. Each answer is the lowest check that applies, or the verdict.
 -- Assumes nothing.
 use mathlib.Core.Path.{sym, ◌∙◌}
-use borrow.Author.Tests.{not-true, not-false}
 use Rattle.merge_laws.proofs.Wholes.{lengths_are, first_asked, second_asked, both_whole}
 use Rattle.compare.proofs.Answers.{told_1, told_2, told_3, told_4, told_0}
-use borrow.Author.Rules.{rules}
 use Rattle.compare.proofs.compare.Goals as goal
 
 pub returns-then-not-lengths : goal.returns-then-not-lengths

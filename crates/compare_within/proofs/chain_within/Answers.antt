@@ -1,11 +1,8 @@
 -- `compare_within::chain_within` meets its contract. The loop's invariant: the records of the chain met so far are up to the second's.
 -- Assumes nothing.
 use mathlib.Core.Path.{refl}
-use borrow.Author.Tests.{not-true, not-false}
 use Rattle.compare_within.proofs.Forms.{chain_seek, chain_small, chain_turn, chain_stop, chain_done}
-use Rattle.merge_laws.specs.Absorb.{records_in, ahead}
-use Rattle.compare_laws.proofs.Steps.{Comparing, compare_start, compare_less}
-use borrow.Author.Rules.{rules}
+use Rattle.compare_laws.proofs.Steps.{compare_start, compare_less}
 use Rattle.compare_within.proofs.chain_within.Goals as goal
 
 pub loop-j-init : goal.loop-j-init

@@ -1,9 +1,5 @@
-use mathlib.Core.Path.{refl}
-use borrow.Author.Tests.{not-true, not-false}
-use Rattle.compare_within.proofs.Forms.{chain_seek, chain_small, chain_turn, chain_stop, chain_done}
 use Rattle.merge_laws.specs.Absorb.{records_in, ahead}
-use Rattle.compare_laws.proofs.Steps.{Comparing, compare_start, compare_less}
-use borrow.Author.Rules.{rules}
+use Rattle.compare_laws.proofs.Steps.{Comparing}
 use Rattle.compare_within.proofs.chain_within.Given as goal
 
 abbrev pub invariant-loop-j : goal.invariant-loop-j

@@ -1,7 +1,6 @@
 -- `compare_within::field_within` meets its contract.
 -- Assumes nothing.
 use Rattle.compare_within.proofs.Forms.{field_is}
-use borrow.Author.Rules.{rules}
 use Rattle.compare_within.proofs.field_within.Goals as goal
 
 pub returns : goal.returns

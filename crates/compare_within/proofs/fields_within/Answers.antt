@@ -1,12 +1,10 @@
 -- `compare_within::fields_within` meets its contract. The loop's invariant: the first fields are up to the other's.
 -- Assumes nothing.
-use Prim.Native.Nat.{◌≤◌, ◌-◌, ◌/◌}
+use Prim.Native.Nat.{◌-◌, ◌/◌}
 use mathlib.Core.Path.{◌≡◌, sym, ◌∙◌}
 use mathlib.Core.Bool.{true}
 use native.Mathlib.Omega.{arith}
-use borrow.Author.Tests.{not-true, not-false}
 use Rattle.model.specs.Layout.{fields}
-use Rattle.compare_laws.specs.UpTo.{fields_up_to}
 use Rattle.compare_laws.proofs.Fields.{fields_none, fields_more, fields_fail}
 use Rattle.compare_within.proofs.fields_within.Goals as goal
 

@@ -1,11 +1,8 @@
 use Prim.Native.Nat.{◌≤◌, ◌-◌, ◌/◌}
-use mathlib.Core.Path.{◌≡◌, sym, ◌∙◌}
+use mathlib.Core.Path.{◌≡◌}
 use mathlib.Core.Bool.{true}
-use native.Mathlib.Omega.{arith}
-use borrow.Author.Tests.{not-true, not-false}
 use Rattle.model.specs.Layout.{fields}
 use Rattle.compare_laws.specs.UpTo.{fields_up_to}
-use Rattle.compare_laws.proofs.Fields.{fields_none, fields_more, fields_fail}
 use Rattle.compare_within.proofs.fields_within.Given as goal
 
 abbrev pub invariant-loop-done : goal.invariant-loop-done

@@ -2,7 +2,6 @@
 -- Assumes nothing.
 use native.Mathlib.Omega.{arith}
 use Rattle.compare_within.proofs.Forms.{link_there, link_not}
-use borrow.Author.Rules.{rules}
 use Rattle.compare_within.proofs.link_within.Goals as goal
 
 pub record_within-requires : goal.record_within-requires

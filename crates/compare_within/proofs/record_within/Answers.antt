@@ -3,7 +3,6 @@
 use native.Mathlib.Omega.{arith}
 use Rattle.model.specs.Layout.{base}
 use Rattle.compare_within.proofs.Forms.{flag_later, record_is}
-use borrow.Author.Rules.{rules}
 use Rattle.compare_within.proofs.record_within.Goals as goal
 
 pub returns-then-flag_at : goal.returns-then-flag_at

@@ -1,12 +1,10 @@
 -- `compare_within::records_within` meets its contract. The loop's invariant: the records of the relations before are up to the second's.
 -- Assumes nothing.
-use Prim.Native.Nat.{◌≤◌, ◌+◌, ◌-◌}
+use Prim.Native.Nat.{◌-◌}
 use native.Mathlib.Omega.{arith}
 use mathlib.Core.Path.{sym, ◌∙◌}
-use borrow.Author.Tests.{not-true, not-false}
-use Rattle.model.specs.Layout.{most_relations}
 use Rattle.compare_laws.proofs.Chains.{chain_fails}
-use Rattle.compare_within.proofs.Forms.{UpToBelow, below_first, below_next, below_all}
+use Rattle.compare_within.proofs.Forms.{below_first, below_next, below_all}
 use Rattle.compare_within.proofs.records_within.Goals as goal
 
 pub loop-relation-init : goal.loop-relation-init

@@ -1,10 +1,6 @@
 use Prim.Native.Nat.{◌≤◌, ◌+◌, ◌-◌}
-use native.Mathlib.Omega.{arith}
-use mathlib.Core.Path.{sym, ◌∙◌}
-use borrow.Author.Tests.{not-true, not-false}
 use Rattle.model.specs.Layout.{most_relations}
-use Rattle.compare_laws.proofs.Chains.{chain_fails}
-use Rattle.compare_within.proofs.Forms.{UpToBelow, below_first, below_next, below_all}
+use Rattle.compare_within.proofs.Forms.{UpToBelow}
 use Rattle.compare_within.proofs.records_within.Given as goal
 
 abbrev pub invariant-loop-relation : goal.invariant-loop-relation

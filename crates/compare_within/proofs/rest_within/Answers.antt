@@ -1,12 +1,9 @@
 -- `compare_within::rest_within` meets its contract. The loop's invariant: the first fields, at least half of them, are up to the other's.
 -- Assumes nothing.
-use Prim.Native.Nat.{◌≤◌, ◌-◌}
-use mathlib.Core.Path.{◌≡◌, sym, ◌∙◌}
+use Prim.Native.Nat.{◌-◌}
+use mathlib.Core.Path.{sym, ◌∙◌}
 use mathlib.Core.Bool.{true}
 use native.Mathlib.Omega.{arith}
-use borrow.Author.Tests.{not-true, not-false}
-use Rattle.model.specs.Layout.{fields}
-use Rattle.compare_laws.specs.UpTo.{fields_up_to}
 use Rattle.compare_laws.proofs.Fields.{fields_more, fields_fail, fields_all}
 use Rattle.compare_within.proofs.rest_within.Goals as goal
 

@@ -1,7 +1,6 @@
 -- `compare_within::within` meets its contract.
 -- Assumes nothing.
 use Rattle.compare_within.proofs.Forms.{clock_late, clock_good}
-use borrow.Author.Rules.{rules}
 use Rattle.compare_within.proofs.within.Goals as goal
 
 pub returns-then-clock : goal.returns-then-clock

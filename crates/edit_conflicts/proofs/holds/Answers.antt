@@ -1,6 +1,5 @@
 -- `edit_conflicts::holds` meets its contract.
 -- Assumes nothing.
-use Rattle.crdt.proofs.Tests.{not_true}
 use Rattle.edit_basics.proofs.Turns.{not_left}
 use Rattle.edit_laws.proofs.DeletionNumber.{aborting_hidden, aborting_self, aborting_here}
 use Rattle.std.proofs.lemmas.Bool.{not_from_true}

@@ -1,13 +1,10 @@
 -- `edit_conflicts::is_held` meets its contract.
 -- Assumes nothing.
-use Prim.Native.Nat.{ℕ, ◌≤◌, ◌+◌, ◌-◌}
-use mathlib.Core.Path.{◌≡◌, refl, sym, ◌∙◌}
-use mathlib.Core.Bool.{◌&&◌}
+use Prim.Native.Nat.{◌+◌, ◌-◌}
+use mathlib.Core.Path.{refl, sym, ◌∙◌}
 use native.Mathlib.Omega.{arith}
-use Rattle.model.specs.Layout.{used_at}
 use Rattle.model.specs.Tables.{record_of}
-use Rattle.marks.specs.Marks.{is_marked}
-use Rattle.edit_basics.proofs.Turns.{NoneTo, none_start, none_more}
+use Rattle.edit_basics.proofs.Turns.{none_start, none_more}
 use Rattle.edit_laws.proofs.Clash.{stand_found, stand_none}
 use Rattle.edit_laws.proofs.DeletionNumber.{aborting}
 use Rattle.edit_conflicts.proofs.is_held.Goals as goal

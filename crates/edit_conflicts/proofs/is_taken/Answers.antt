@@ -1,13 +1,9 @@
 -- `edit_conflicts::is_taken` meets its contract.
 -- Assumes nothing.
-use Prim.Native.Nat.{ℕ, ◌≤◌, ◌+◌, ◌-◌}
-use mathlib.Core.Path.{◌≡◌, sym, ◌∙◌}
-use mathlib.Core.Bool.{◌&&◌}
+use Prim.Native.Nat.{◌+◌, ◌-◌}
+use mathlib.Core.Path.{sym, ◌∙◌}
 use native.Mathlib.Omega.{arith}
-use Rattle.model.specs.Layout.{used_at}
-use Rattle.marks.specs.Marks.{is_marked}
-use Rattle.edit_basics.proofs.Turns.{NoneTo, none_start, none_more}
-use Rattle.edit_laws.specs.Clash.{clashes}
+use Rattle.edit_basics.proofs.Turns.{none_start, none_more}
 use Rattle.edit_laws.proofs.Clash.{stand_found, stand_none}
 use Rattle.edit_conflicts.proofs.is_taken.Goals as goal
 

@@ -1,6 +1,5 @@
 -- `edit_conflicts::takes` meets its contract.
 -- Assumes nothing.
-use Rattle.crdt.proofs.Tests.{not_true}
 use Rattle.edit_basics.proofs.Turns.{not_left}
 use Rattle.edit_laws.proofs.Clash.{takes_hidden, takes_but, takes_other, takes_here}
 use Rattle.std.proofs.lemmas.Bool.{not_from_true}

@@ -1,13 +1,8 @@
 -- `edit_delta::draft_chain` meets its contract.
 -- Assumes nothing.
 use Prim.Native.Nat.{◌-◌}
-use mathlib.Core.Path.{◌≡◌}
 use native.Mathlib.Omega.{arith}
-use Rattle.model.specs.Tables.{encode}
-use Rattle.edit_delta.specs.Drafting.{key_of, drafted, end_of}
-use Rattle.edit_delta.proofs.Steps.{cursor, Stands}
 use Rattle.edit_delta.proofs.Turns.{same_words_lem, chain_starts, chain_steppable, chain_turns, chain_less, chain_ends}
-use borrow.Author.Rules.{rules}
 use Rattle.edit_delta.proofs.draft_chain.Goals as goal
 
 pub loop-i-init : goal.loop-i-init

@@ -6,7 +6,6 @@ use native.Mathlib.Omega.{arith}
 use Rattle.model.specs.Layout.{base}
 use Rattle.edit_delta.proofs.Given.{source}
 use Rattle.edit_delta.proofs.Turns.{found_small, deletion_edited, held_findable, deletion_done}
-use borrow.Author.Rules.{rules}
 use Rattle.edit_delta.proofs.draft_deletion.Goals as goal
 
 pub draft_records-requires : goal.draft_records-requires

@@ -2,7 +2,6 @@
 -- Assumes nothing.
 use Rattle.edit_delta.proofs.Given.{source}
 use Rattle.edit_delta.proofs.Turns.{found_small, insertion_edited, insertion_findable, insertion_done}
-use borrow.Author.Rules.{rules}
 use Rattle.edit_delta.proofs.draft_insertion.Goals as goal
 
 pub draft_records-requires : goal.draft_records-requires

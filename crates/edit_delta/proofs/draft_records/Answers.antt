@@ -1,14 +1,8 @@
 -- `edit_delta::draft_records` meets its contract.
 -- Assumes nothing.
-use Prim.Native.Nat.{◌≤◌, ◌+◌, ◌-◌}
-use mathlib.Core.Path.{◌≡◌}
+use Prim.Native.Nat.{◌-◌}
 use native.Mathlib.Omega.{arith}
-use Rattle.model.specs.Layout.{most_relations}
-use Rattle.model.specs.Records.{place}
-use Rattle.model.specs.Tables.{encode}
-use Rattle.edit_delta.specs.Drafting.{key_of, drafted}
 use Rattle.edit_delta.proofs.Turns.{walk_begins, walk_ends, walk_size}
-use borrow.Author.Rules.{rules}
 use Rattle.edit_delta.proofs.draft_records.Goals as goal
 
 pub loop-relation-init : goal.loop-relation-init

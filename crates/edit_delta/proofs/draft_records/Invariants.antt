@@ -1,12 +1,9 @@
 use Prim.Native.Nat.{◌≤◌, ◌+◌, ◌-◌}
 use mathlib.Core.Path.{◌≡◌}
-use native.Mathlib.Omega.{arith}
 use Rattle.model.specs.Layout.{most_relations}
 use Rattle.model.specs.Records.{place}
 use Rattle.model.specs.Tables.{encode}
 use Rattle.edit_delta.specs.Drafting.{key_of, drafted}
-use Rattle.edit_delta.proofs.Turns.{walk_begins, walk_ends, walk_size}
-use borrow.Author.Rules.{rules}
 use Rattle.edit_delta.proofs.draft_records.Given as goal
 
 abbrev pub invariant-loop-relation : goal.invariant-loop-relation

@@ -1,7 +1,6 @@
 -- `edit_delta::draft_relation` meets its contract.
 -- Assumes nothing.
 use Rattle.edit_delta.proofs.Turns.{walk_room, new_clock, relation_adds, relation_ends}
-use borrow.Author.Rules.{rules}
 use Rattle.edit_delta.proofs.draft_relation.Goals as goal
 
 pub new_label-requires : goal.new_label-requires

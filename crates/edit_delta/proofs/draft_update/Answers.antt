@@ -3,7 +3,6 @@
 use native.Mathlib.Omega.{arith}
 use Rattle.edit_delta.proofs.Given.{source}
 use Rattle.edit_delta.proofs.Turns.{found_small, update_edited, held_findable, update_done}
-use borrow.Author.Rules.{rules}
 use Rattle.edit_delta.proofs.draft_update.Goals as goal
 
 pub draft_records-requires : goal.draft_records-requires

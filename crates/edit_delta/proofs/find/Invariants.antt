@@ -1,12 +1,6 @@
-use Rattle.crdt.proofs.Tests.{not_true}
 use Prim.Native.Nat.{◌≤◌}
-use mathlib.Core.Path.{◌≡◌, refl, sym}
-use mathlib.Core.Bool.{Bool, true, false, not}
-use native.Mathlib.Omega.{arith}
 use Rattle.model.specs.Layout.{used_at}
 use Rattle.edit_delta.specs.Drafting.{Findable}
-use Rattle.edit_delta.proofs.Turns.{found_not, found_here}
-use borrow.Author.Rules.{rules}
 use Rattle.edit_delta.proofs.find.Given as goal
 
 abbrev pub invariant-loop-i : goal.invariant-loop-i

@@ -1,6 +1,5 @@
 -- `edit_delta::is_at` meets its contract.
 -- Assumes nothing.
-use borrow.Author.Rules.{rules}
 use Rattle.edit_delta.proofs.is_at.Goals as goal
 
 pub returns : goal.returns

@@ -3,7 +3,6 @@
 use Rattle.model.specs.Layout.{base}
 use native.Mathlib.Omega.{arith}
 use Rattle.edit_delta.proofs.Turns.{registered_is}
-use borrow.Author.Rules.{rules}
 use Rattle.edit_delta.proofs.write_register.Goals as goal
 
 pub overflow_add-at : goal.overflow_add-at

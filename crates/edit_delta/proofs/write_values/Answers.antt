@@ -1,12 +1,10 @@
 -- `edit_delta::write_values` meets its contract.
 -- Assumes nothing.
-use Prim.Native.Nat.{◌≤◌, ◌-◌}
+use Prim.Native.Nat.{◌-◌}
 use mathlib.Core.Path.{◌≡◌, ◌∙◌, ap}
 use native.Mathlib.Omega.{arith}
 use lib.ListN.{length}
-use Rattle.edit_delta.specs.Drafting.{all_registered}
 use Rattle.edit_delta.proofs.Turns.{registered_none, registered_next, registered_length}
-use borrow.Author.Rules.{rules}
 use Rattle.edit_delta.proofs.write_values.Goals as goal
 
 pub loop-j-init : goal.loop-j-init

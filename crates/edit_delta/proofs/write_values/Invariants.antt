@@ -1,10 +1,7 @@
 use Prim.Native.Nat.{◌≤◌, ◌-◌}
-use mathlib.Core.Path.{◌≡◌, ◌∙◌, ap}
-use native.Mathlib.Omega.{arith}
+use mathlib.Core.Path.{◌≡◌}
 use lib.ListN.{length}
 use Rattle.edit_delta.specs.Drafting.{all_registered}
-use Rattle.edit_delta.proofs.Turns.{registered_none, registered_next, registered_length}
-use borrow.Author.Rules.{rules}
 use Rattle.edit_delta.proofs.write_values.Given as goal
 
 abbrev pub invariant-loop-j : goal.invariant-loop-j

@@ -1,7 +1,6 @@
 -- `edit_record::begin` meets its contract.
 -- Assumes nothing.
 use Rattle.edit_record.proofs.Words.{begun}
-use borrow.Author.Rules.{rules}
 use Rattle.edit_record.proofs.begin.Goals as goal
 
 pub returns : goal.returns

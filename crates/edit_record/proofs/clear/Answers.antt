@@ -1,9 +1,9 @@
 -- `edit_record::clear` meets its contract.
 -- Assumes nothing.
-use Prim.Native.Nat.{ℕ, ◌≤◌, ◌<◌, ◌-◌}
-use mathlib.Core.Path.{◌≡◌, refl}
+use Prim.Native.Nat.{◌-◌}
+use mathlib.Core.Path.{refl}
 use native.Mathlib.Omega.{arith}
-use lib.ListN.{length, get_or, length-set}
+use lib.ListN.{length-set}
 use Rattle.edit_record.proofs.Words.{cleared_next, cleared_all}
 use Rattle.edit_record.proofs.clear.Goals as goal
 

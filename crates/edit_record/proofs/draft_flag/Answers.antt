@@ -1,7 +1,6 @@
 -- `edit_record::draft_flag` meets its contract.
 -- Assumes nothing.
 use mathlib.Core.Path.{refl}
-use borrow.Author.Rules.{rules}
 use Rattle.edit_record.proofs.draft_flag.Goals as goal
 
 pub returns-then-again : goal.returns-then-again

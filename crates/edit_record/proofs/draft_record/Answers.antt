@@ -1,7 +1,6 @@
 -- `edit_record::draft_record` meets its contract.
 -- Assumes nothing.
 use Rattle.edit_record.proofs.Words.{stepped_yes, stepped_no}
-use borrow.Author.Rules.{rules}
 use Rattle.edit_record.proofs.draft_record.Goals as goal
 
 pub returns-then-again-i : goal.returns-then-again-i

@@ -1,7 +1,6 @@
 -- `edit_record::link` meets its contract.
 -- Assumes nothing.
 use Rattle.edit_record.proofs.Words.{link_yes, link_no}
-use borrow.Author.Rules.{rules}
 use Rattle.edit_record.proofs.link.Goals as goal
 
 pub returns-then-last-relation_at : goal.returns-then-last-relation_at

@@ -2,7 +2,6 @@
 -- Assumes nothing.
 use mathlib.Core.Path.{◌∙◌}
 use Rattle.edit_record.proofs.Words.{label_now}
-use borrow.Author.Rules.{rules}
 use Rattle.edit_record.proofs.new_label.Goals as goal
 
 pub returns : goal.returns

@@ -3,7 +3,6 @@
 use Prim.Native.Nat.{ℕ, ◌%◌}
 use mathlib.Core.Path.{◌≡◌}
 use native.Mathlib.Omega.{arith}
-use Rattle.crdt.proofs.Tests.{not_true}
 use Rattle.edit_basics.proofs.Turns.{not_left}
 use Rattle.edit_laws.proofs.Picks.{deletion_even, deletion_self, deletion_no, deletion_yes}
 use Rattle.std.proofs.lemmas.Bool.{not_from_true}

@@ -1,14 +1,9 @@
 -- `edit_redo::is_spent` meets its contract.
 -- Assumes nothing.
-use Prim.Native.Nat.{ℕ, ◌≤◌, ◌+◌, ◌-◌}
-use mathlib.Core.Path.{◌≡◌, sym, ◌∙◌}
-use mathlib.Core.Bool.{◌&&◌}
+use Prim.Native.Nat.{◌+◌, ◌-◌}
+use mathlib.Core.Path.{sym, ◌∙◌}
 use native.Mathlib.Omega.{arith}
-use lib.Dec.{eqb}
-use Rattle.crdt.specs.Flags.{largest_flag}
-use Rattle.model.specs.Layout.{used_at, flag_at}
-use Rattle.marks.specs.Marks.{is_marked}
-use Rattle.edit_basics.proofs.Turns.{NoneTo, none_start, none_more}
+use Rattle.edit_basics.proofs.Turns.{none_start, none_more}
 use Rattle.edit_laws.proofs.Picks.{spent_found, spent_none}
 use Rattle.edit_redo.proofs.is_spent.Goals as goal
 

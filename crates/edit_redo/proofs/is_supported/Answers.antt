@@ -1,13 +1,10 @@
 -- `edit_redo::is_supported` meets its contract.
 -- Assumes nothing.
-use Prim.Native.Nat.{ℕ, ◌≤◌, ◌+◌, ◌-◌}
-use mathlib.Core.Path.{◌≡◌, sym, ◌∙◌}
+use Prim.Native.Nat.{◌+◌, ◌-◌}
+use mathlib.Core.Path.{sym, ◌∙◌}
 use native.Mathlib.Omega.{arith}
-use Rattle.model.specs.Layout.{used_at}
-use Rattle.model.specs.Schemas.{schema_of}
-use Rattle.model.specs.Tables.{record_of}
-use Rattle.edit_basics.proofs.Turns.{NoneTo, none_start, none_more}
-use Rattle.edit_laws.proofs.Picks.{backs, backed, unbacked}
+use Rattle.edit_basics.proofs.Turns.{none_start, none_more}
+use Rattle.edit_laws.proofs.Picks.{backed, unbacked}
 use Rattle.edit_redo.proofs.is_supported.Goals as goal
 
 pub loop-y-init : goal.loop-y-init

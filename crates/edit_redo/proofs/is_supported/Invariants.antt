@@ -1,11 +1,10 @@
-use Prim.Native.Nat.{ℕ, ◌≤◌, ◌+◌, ◌-◌}
-use mathlib.Core.Path.{◌≡◌, sym, ◌∙◌}
-use native.Mathlib.Omega.{arith}
+use Prim.Native.Nat.{◌≤◌, ◌-◌}
+use mathlib.Core.Path.{◌≡◌}
 use Rattle.model.specs.Layout.{used_at}
 use Rattle.model.specs.Schemas.{schema_of}
 use Rattle.model.specs.Tables.{record_of}
-use Rattle.edit_basics.proofs.Turns.{NoneTo, none_start, none_more}
-use Rattle.edit_laws.proofs.Picks.{backs, backed, unbacked}
+use Rattle.edit_basics.proofs.Turns.{NoneTo}
+use Rattle.edit_laws.proofs.Picks.{backs}
 use Rattle.edit_redo.proofs.is_supported.Given as goal
 
 abbrev pub invariant-loop-y : goal.invariant-loop-y

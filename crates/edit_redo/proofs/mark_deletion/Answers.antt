@@ -1,17 +1,16 @@
 -- `edit_redo::mark_deletion` meets its contract.
 -- Assumes nothing.
-use Prim.Native.Nat.{ℕ, ◌≤◌, ◌+◌, ◌-◌}
-use mathlib.Core.Path.{◌≡◌, refl, sym, ◌∙◌, ap}
+use Prim.Native.Nat.{ℕ, ◌-◌}
+use mathlib.Core.Path.{refl, ◌∙◌, ap}
 use mathlib.Core.Bool.{Bool, cond}
 use native.Mathlib.Omega.{arith}
-use lib.ListN.{length, length-set}
-use Rattle.model.specs.Layout.{used_at, most_records}
+use lib.ListN.{length-set}
 use Rattle.model.specs.Schemas.{schema_of}
 use Rattle.model.specs.Tables.{record_of}
-use Rattle.model.specs.Edits.{update_redoes, deletion_redoes}
+use Rattle.model.specs.Edits.{deletion_redoes}
 use Rattle.references.proofs.Places.{used_most}
 use Rattle.edit_basics.specs.Targets.{held}
-use Rattle.edit_laws.proofs.Picks.{Filled, filled_more, filled_picked, pick_of}
+use Rattle.edit_laws.proofs.Picks.{filled_more, filled_picked, pick_of}
 use Rattle.edit_redo.proofs.mark_deletion.Goals as goal
 
 pub loop-p-init : goal.loop-p-init

@@ -1,15 +1,12 @@
-use Prim.Native.Nat.{ℕ, ◌≤◌, ◌+◌, ◌-◌}
-use mathlib.Core.Path.{◌≡◌, refl, sym, ◌∙◌, ap}
-use mathlib.Core.Bool.{Bool, cond}
-use native.Mathlib.Omega.{arith}
-use lib.ListN.{length, length-set}
-use Rattle.model.specs.Layout.{used_at, most_records}
+use Prim.Native.Nat.{◌≤◌, ◌-◌}
+use mathlib.Core.Path.{◌≡◌}
+use lib.ListN.{length}
+use Rattle.model.specs.Layout.{used_at}
 use Rattle.model.specs.Schemas.{schema_of}
 use Rattle.model.specs.Tables.{record_of}
-use Rattle.model.specs.Edits.{update_redoes, deletion_redoes}
-use Rattle.references.proofs.Places.{used_most}
+use Rattle.model.specs.Edits.{deletion_redoes}
 use Rattle.edit_basics.specs.Targets.{held}
-use Rattle.edit_laws.proofs.Picks.{Filled, filled_more, filled_picked, pick_of}
+use Rattle.edit_laws.proofs.Picks.{Filled, pick_of}
 use Rattle.edit_redo.proofs.mark_deletion.Given as goal
 
 abbrev pub invariant-loop-p : goal.invariant-loop-p

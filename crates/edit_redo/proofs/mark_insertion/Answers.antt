@@ -1,17 +1,16 @@
 -- `edit_redo::mark_insertion` meets its contract.
 -- Assumes nothing.
-use Prim.Native.Nat.{ℕ, ◌≤◌, ◌+◌, ◌-◌}
-use mathlib.Core.Path.{◌≡◌, refl, sym, ◌∙◌, ap}
+use Prim.Native.Nat.{ℕ, ◌-◌}
+use mathlib.Core.Path.{refl, ◌∙◌, ap}
 use mathlib.Core.Bool.{Bool, cond}
 use native.Mathlib.Omega.{arith}
-use lib.ListN.{length, length-set}
-use Rattle.model.specs.Layout.{used_at, most_records}
+use lib.ListN.{length-set}
 use Rattle.model.specs.Schemas.{is_reference}
 use Rattle.model.specs.Shown.{leads}
 use Rattle.model.specs.Edits.{odd}
 use Rattle.references.proofs.Places.{used_most}
 use Rattle.edit_basics.specs.Targets.{kinds_of, bare, held}
-use Rattle.edit_laws.proofs.Picks.{Filled, filled_more, filled_picked, pick_of}
+use Rattle.edit_laws.proofs.Picks.{filled_more, filled_picked, pick_of}
 use Rattle.edit_redo.proofs.mark_insertion.Goals as goal
 
 pub loop-i-init : goal.loop-i-init

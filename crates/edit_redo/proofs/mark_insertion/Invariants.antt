@@ -1,15 +1,12 @@
-use Prim.Native.Nat.{ℕ, ◌≤◌, ◌+◌, ◌-◌}
-use mathlib.Core.Path.{◌≡◌, refl, sym, ◌∙◌, ap}
-use mathlib.Core.Bool.{Bool, cond}
-use native.Mathlib.Omega.{arith}
-use lib.ListN.{length, length-set}
-use Rattle.model.specs.Layout.{used_at, most_records}
+use Prim.Native.Nat.{◌≤◌, ◌-◌}
+use mathlib.Core.Path.{◌≡◌}
+use lib.ListN.{length}
+use Rattle.model.specs.Layout.{used_at}
 use Rattle.model.specs.Schemas.{is_reference}
 use Rattle.model.specs.Shown.{leads}
 use Rattle.model.specs.Edits.{odd}
-use Rattle.references.proofs.Places.{used_most}
 use Rattle.edit_basics.specs.Targets.{kinds_of, bare, held}
-use Rattle.edit_laws.proofs.Picks.{Filled, filled_more, filled_picked, pick_of}
+use Rattle.edit_laws.proofs.Picks.{Filled, pick_of}
 use Rattle.edit_redo.proofs.mark_insertion.Given as goal
 
 abbrev pub invariant-loop-i : goal.invariant-loop-i

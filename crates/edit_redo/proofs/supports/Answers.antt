@@ -1,6 +1,5 @@
 -- `edit_redo::supports` meets its contract.
 -- Assumes nothing.
-use Rattle.crdt.proofs.Tests.{not_true}
 use Rattle.edit_basics.proofs.Turns.{not_left}
 use Rattle.edit_laws.proofs.Picks.{backs_self, backs_dead, backs_live}
 use Rattle.std.proofs.lemmas.Bool.{not_from_true}

@@ -1,15 +1,14 @@
 -- `edit_targets::aborts` meets its contract.
 -- Assumes nothing.
-use Prim.Native.Nat.{ℕ, ◌≤◌, ◌+◌, ◌-◌}
+use Prim.Native.Nat.{ℕ, ◌+◌, ◌-◌}
 use mathlib.Core.Path.{◌≡◌, sym, ◌∙◌, ap}
 use mathlib.Core.Bool.{true}
 use native.Mathlib.Omega.{arith}
 use Rattle.crdt.proofs.Tests.{and_left}
 use Rattle.model.specs.Layout.{field_count, relation_at}
-use Rattle.model.specs.Schemas.{is_reference, is_abort, abort_kinds}
+use Rattle.model.specs.Schemas.{is_reference, is_abort}
 use Rattle.references.proofs.Places.{used_most, fields_most}
-use Rattle.edit_basics.specs.Targets.{meets}
-use Rattle.edit_basics.proofs.Turns.{NoneTo, none_start, none_more}
+use Rattle.edit_basics.proofs.Turns.{none_start, none_more}
 use Rattle.edit_basics.proofs.Refs.{refers_found, refers_none}
 use Rattle.edit_targets.proofs.aborts.Goals as goal
 

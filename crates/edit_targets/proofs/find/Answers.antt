@@ -1,10 +1,9 @@
 -- `edit_targets::find` meets its contract.
 -- Assumes nothing.
-use mathlib.Core.Path.{◌≡◌, sym, ◌∙◌}
+use mathlib.Core.Path.{sym, ◌∙◌}
 use mathlib.Core.Logic.{inl, inr}
 use native.Mathlib.Omega.{arith}
-use Rattle.marks.proofs.Chain.{left}
-use Rattle.edit_basics.proofs.Chain.{Seeking, seek_start, seek_step, seek_less, found, missed, not_there}
+use Rattle.edit_basics.proofs.Chain.{seek_start, seek_step, seek_less, found, missed, not_there}
 use Rattle.edit_targets.proofs.find.Goals as goal
 
 pub returns-then-r-lt1 : goal.returns-then-r-lt1

@@ -1,8 +1,5 @@
-use mathlib.Core.Path.{◌≡◌, sym, ◌∙◌}
-use mathlib.Core.Logic.{inl, inr}
-use native.Mathlib.Omega.{arith}
 use Rattle.marks.proofs.Chain.{left}
-use Rattle.edit_basics.proofs.Chain.{Seeking, seek_start, seek_step, seek_less, found, missed, not_there}
+use Rattle.edit_basics.proofs.Chain.{Seeking}
 use Rattle.edit_targets.proofs.find.Given as goal
 
 abbrev pub invariant-loop-i : goal.invariant-loop-i

@@ -1,17 +1,15 @@
 use Prim.Native.Nat.{◌≤◌, ◌-◌}
-use mathlib.Core.Path.{◌≡◌, sym, ◌∙◌, ap}
+use mathlib.Core.Path.{◌≡◌}
 use mathlib.Core.Bool.{true}
-use native.Mathlib.Omega.{arith}
 use lib.Dec.{eqb}
 use lib.ListN.{length}
-use Rattle.crdt.proofs.Tests.{not_true, not_false}
 use Rattle.model.specs.Layout.{field_count, kind_at}
 use Rattle.model.specs.Lists.{some_of}
 use Rattle.model.specs.Tables.{record_of}
 use Rattle.model.specs.Schemas.{is_reference}
 use Rattle.model.specs.Shown.{leads}
 use Rattle.edit_basics.specs.Targets.{kinds_of, bare}
-use Rattle.edit_basics.proofs.Values.{values_fit, rules, rules_start, rule_now, rule_next, ahead, ahead_start, some_stop, some_go, some_end}
+use Rattle.edit_basics.proofs.Values.{rules, ahead}
 use Rattle.edit_targets.proofs.lead_to.Given as goal
 
 abbrev pub invariant-loop-j : goal.invariant-loop-j

@@ -1,6 +1,6 @@
 -- `edit_targets::target_shown` meets its contract.
 -- Assumes nothing.
-use mathlib.Core.Path.{◌≡◌, sym, ◌∙◌, ap}
+use mathlib.Core.Path.{◌∙◌, ap}
 use native.Mathlib.Omega.{arith}
 use Rattle.laws.proofs.Drafts.{shown_in}
 use Rattle.marks.specs.Marks.{is_marked}

@@ -1,19 +1,13 @@
 -- `edit_targets::targets_shown` meets its contract.
 -- Assumes nothing.
-use Prim.Native.Nat.{◌≤◌, ◌-◌}
-use mathlib.Core.Path.{◌≡◌, sym, ◌∙◌, ap}
+use Prim.Native.Nat.{◌-◌}
+use mathlib.Core.Path.{sym, ◌∙◌, ap}
 use mathlib.Core.Bool.{true}
 use native.Mathlib.Omega.{arith}
-use lib.ListN.{length}
-use Rattle.crdt.proofs.Tests.{not_true}
-use Rattle.model.specs.Layout.{field_count, kind_at}
+use Rattle.model.specs.Layout.{kind_at}
 use Rattle.model.specs.Lists.{all_of}
-use Rattle.model.specs.Schemas.{is_reference, schema_of}
-use Rattle.model.specs.Records.{has}
-use Rattle.model.specs.Shown.{leads, shown}
-use Rattle.edit_basics.specs.Targets.{kinds_of, bare, held}
 use Rattle.edit_basics.proofs.Turns.{not_left}
-use Rattle.edit_basics.proofs.Values.{values_fit, rules, rules_start, rule_now, rule_next, ahead, ahead_start, all_stop, all_go, all_end}
+use Rattle.edit_basics.proofs.Values.{values_fit, rules_start, rule_now, rule_next, ahead_start, all_stop, all_go, all_end}
 use Rattle.std.proofs.lemmas.Bool.{not_from_true}
 use Rattle.edit_targets.proofs.targets_shown.Goals as goal
 

@@ -1,17 +1,14 @@
 use Prim.Native.Nat.{◌≤◌, ◌-◌}
-use mathlib.Core.Path.{◌≡◌, sym, ◌∙◌, ap}
+use mathlib.Core.Path.{◌≡◌}
 use mathlib.Core.Bool.{true}
-use native.Mathlib.Omega.{arith}
 use lib.ListN.{length}
-use Rattle.crdt.proofs.Tests.{not_true}
 use Rattle.model.specs.Layout.{field_count, kind_at}
 use Rattle.model.specs.Lists.{all_of}
 use Rattle.model.specs.Schemas.{is_reference, schema_of}
 use Rattle.model.specs.Records.{has}
 use Rattle.model.specs.Shown.{leads, shown}
 use Rattle.edit_basics.specs.Targets.{kinds_of, bare, held}
-use Rattle.edit_basics.proofs.Turns.{not_left}
-use Rattle.edit_basics.proofs.Values.{values_fit, rules, rules_start, rule_now, rule_next, ahead, ahead_start, all_stop, all_go, all_end}
+use Rattle.edit_basics.proofs.Values.{rules, ahead}
 use Rattle.edit_targets.proofs.targets_shown.Given as goal
 
 abbrev pub invariant-loop-j : goal.invariant-loop-j

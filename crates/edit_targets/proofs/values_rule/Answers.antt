@@ -1,15 +1,11 @@
 -- `edit_targets::values_rule` meets its contract.
 -- Assumes nothing.
-use Prim.Native.Nat.{◌≤◌, ◌-◌}
-use mathlib.Core.Path.{◌≡◌, sym, ◌∙◌}
+use Prim.Native.Nat.{◌-◌}
+use mathlib.Core.Path.{sym, ◌∙◌}
 use native.Mathlib.Omega.{arith}
-use lib.ListN.{length}
-use Rattle.crdt.proofs.Tests.{not_true}
 use Rattle.edit_basics.proofs.Turns.{not_left}
-use Rattle.model.specs.Layout.{field_count, kind_at}
-use Rattle.model.specs.Edits.{values_rule}
-use Rattle.edit_basics.specs.Targets.{kinds_of}
-use Rattle.edit_basics.proofs.Values.{wrong_count, rules, rules_start, rules_end, rules_stop, rules_go}
+use Rattle.model.specs.Layout.{kind_at}
+use Rattle.edit_basics.proofs.Values.{wrong_count, rules_start, rules_end, rules_stop, rules_go}
 use Rattle.std.proofs.lemmas.Bool.{not_from_true}
 use Rattle.edit_targets.proofs.values_rule.Goals as goal
 

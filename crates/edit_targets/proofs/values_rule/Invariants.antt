@@ -1,13 +1,10 @@
 use Prim.Native.Nat.{◌≤◌, ◌-◌}
-use mathlib.Core.Path.{◌≡◌, sym, ◌∙◌}
-use native.Mathlib.Omega.{arith}
+use mathlib.Core.Path.{◌≡◌}
 use lib.ListN.{length}
-use Rattle.crdt.proofs.Tests.{not_true}
-use Rattle.edit_basics.proofs.Turns.{not_left}
 use Rattle.model.specs.Layout.{field_count, kind_at}
 use Rattle.model.specs.Edits.{values_rule}
 use Rattle.edit_basics.specs.Targets.{kinds_of}
-use Rattle.edit_basics.proofs.Values.{wrong_count, rules, rules_start, rules_end, rules_stop, rules_go}
+use Rattle.edit_basics.proofs.Values.{rules}
 use Rattle.edit_targets.proofs.values_rule.Given as goal
 
 abbrev pub invariant-loop-j : goal.invariant-loop-j

@@ -1,7 +1,6 @@
 -- `layout::bad_index` meets its contract.
 -- Assumes nothing.
 use Rattle.model.specs.Calls.{bad_index}
-use borrow.Author.Rules.{rules}
 use Rattle.layout.proofs.bad_index.Goals as goal
 
 pub returns : goal.returns

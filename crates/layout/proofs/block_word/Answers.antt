@@ -3,7 +3,6 @@
 use native.Mathlib.Omega.{arith}
 use Rattle.model.specs.Layout.{word, block}
 use Rattle.layout.proofs.Words.{word_past, word_at, block_far}
-use borrow.Author.Rules.{rules}
 use Rattle.layout.proofs.block_word.Goals as goal
 
 pub returns-then-r-gt-LARGEST_INDEX : goal.returns-then-r-gt-LARGEST_INDEX

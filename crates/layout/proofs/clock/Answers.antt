@@ -1,7 +1,6 @@
 -- `layout::clock` meets its contract.
 -- Assumes nothing.
 use Rattle.model.specs.Layout.{clock_at}
-use borrow.Author.Rules.{rules}
 use Rattle.layout.proofs.clock.Goals as goal
 
 pub returns : goal.returns

@@ -3,7 +3,6 @@
 use native.Mathlib.Omega.{arith}
 use Rattle.model.specs.Layout.{field_count}
 use Rattle.layout.proofs.Words.{word_at}
-use borrow.Author.Rules.{rules}
 use Rattle.layout.proofs.field_count.Goals as goal
 
 pub returns : goal.returns

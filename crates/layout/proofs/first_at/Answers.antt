@@ -3,7 +3,6 @@
 use native.Mathlib.Omega.{arith}
 use Rattle.model.specs.Layout.{word, first_at}
 use Rattle.layout.proofs.Words.{word_at, first_far}
-use borrow.Author.Rules.{rules}
 use Rattle.layout.proofs.first_at.Goals as goal
 
 pub returns-then-t-r : goal.returns-then-t-r

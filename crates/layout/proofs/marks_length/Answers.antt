@@ -1,7 +1,6 @@
 -- `layout::marks_length` meets its contract.
 -- Assumes nothing.
 use Rattle.model.specs.Calls.{marks_length}
-use borrow.Author.Rules.{rules}
 use Rattle.layout.proofs.marks_length.Goals as goal
 
 pub returns : goal.returns

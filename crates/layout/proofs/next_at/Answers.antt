@@ -3,7 +3,6 @@
 use native.Mathlib.Omega.{arith}
 use Rattle.model.specs.Layout.{next_at}
 use Rattle.layout.proofs.Words.{word_at}
-use borrow.Author.Rules.{rules}
 use Rattle.layout.proofs.next_at.Goals as goal
 
 pub returns : goal.returns

@@ -3,7 +3,6 @@
 use native.Mathlib.Omega.{arith}
 use Rattle.model.specs.Layout.{word, base}
 use Rattle.layout.proofs.Words.{word_past, word_at, record_far}
-use borrow.Author.Rules.{rules}
 use Rattle.layout.proofs.record_word.Goals as goal
 
 pub returns-then-i-gt-LARGEST_INDEX : goal.returns-then-i-gt-LARGEST_INDEX

@@ -1,7 +1,6 @@
 -- `layout::relations` meets its contract.
 -- Assumes nothing.
 use Rattle.model.specs.Layout.{relations}
-use borrow.Author.Rules.{rules}
 use Rattle.layout.proofs.relations.Goals as goal
 
 pub returns : goal.returns

@@ -1,7 +1,6 @@
 -- `layout::replica` meets its contract.
 -- Assumes nothing.
 use Rattle.model.specs.Layout.{replica_at}
-use borrow.Author.Rules.{rules}
 use Rattle.layout.proofs.replica.Goals as goal
 
 pub returns : goal.returns

@@ -2,7 +2,6 @@
 -- Assumes nothing.
 use lib.Seq.{set_out}
 use mathlib.Core.Path.{sym}
-use borrow.Author.Rules.{rules}
 use Rattle.layout.proofs.store.Goals as goal
 
 pub returns-else-k-t : goal.returns-else-k-t

@@ -2,7 +2,6 @@
 -- Assumes nothing.
 use borrow.Author.Tests.{lt-leb, le-leb}
 use Rattle.model.specs.Calls.{table_length}
-use borrow.Author.Rules.{rules}
 use Rattle.layout.proofs.table_length.Goals as goal
 
 pub returns-then-t-lt-HEADER_WORDS : goal.returns-then-t-lt-HEADER_WORDS

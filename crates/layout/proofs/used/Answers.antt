@@ -1,7 +1,6 @@
 -- `layout::used` meets its contract.
 -- Assumes nothing.
 use Rattle.model.specs.Layout.{used_at}
-use borrow.Author.Rules.{rules}
 use Rattle.layout.proofs.used.Goals as goal
 
 pub returns : goal.returns

@@ -1,7 +1,6 @@
 -- `list_conflicts::conflict` meets its contract.
 -- Assumes nothing.
 use Rattle.list_conflicts.proofs.Keys.{no_key, a_key}
-use borrow.Author.Rules.{rules}
 use Rattle.list_conflicts.proofs.conflict.Goals as goal
 
 pub returns-then-mask-eq0 : goal.returns-then-mask-eq0

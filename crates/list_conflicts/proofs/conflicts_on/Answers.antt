@@ -3,7 +3,6 @@
 use native.Mathlib.Omega.{arith}
 use Rattle.model.specs.Layout.{base}
 use Rattle.list_conflicts.proofs.Keys.{values_in, few_fields, few_of, part_length, part_lent}
-use borrow.Author.Rules.{rules}
 use Rattle.list_conflicts.proofs.conflicts_on.Goals as goal
 
 pub base-a-requires : goal.base-a-requires

@@ -1,15 +1,10 @@
 -- `list_conflicts::equal_on` meets its contract.
 -- Assumes nothing.
-use Prim.Native.Nat.{◌≤◌, ◌-◌}
-use mathlib.Core.Path.{◌≡◌, sym, ◌∙◌}
+use Prim.Native.Nat.{◌-◌}
+use mathlib.Core.Path.{sym, ◌∙◌}
 use native.Mathlib.Omega.{arith}
-use borrow.Author.Tests.{not-true, not-false}
-use Rattle.model.specs.Layout.{field_count, kind_at}
-use Rattle.model.specs.Lists.{listed}
-use Rattle.model.specs.Shown.{equal_on}
-use Rattle.list_conflicts.specs.Keys.{registers}
-use Rattle.list_conflicts.proofs.Keys.{onward, onward_start, onward_end, turn_stops, turn_goes}
-use borrow.Author.Rules.{rules}
+use Rattle.model.specs.Layout.{kind_at}
+use Rattle.list_conflicts.proofs.Keys.{onward_start, onward_end, turn_stops, turn_goes}
 use Rattle.list_conflicts.proofs.equal_on.Goals as goal
 
 pub loop-j-init : goal.loop-j-init

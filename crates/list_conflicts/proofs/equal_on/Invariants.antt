@@ -1,13 +1,10 @@
 use Prim.Native.Nat.{◌≤◌, ◌-◌}
-use mathlib.Core.Path.{◌≡◌, sym, ◌∙◌}
-use native.Mathlib.Omega.{arith}
-use borrow.Author.Tests.{not-true, not-false}
+use mathlib.Core.Path.{◌≡◌}
 use Rattle.model.specs.Layout.{field_count, kind_at}
 use Rattle.model.specs.Lists.{listed}
 use Rattle.model.specs.Shown.{equal_on}
 use Rattle.list_conflicts.specs.Keys.{registers}
-use Rattle.list_conflicts.proofs.Keys.{onward, onward_start, onward_end, turn_stops, turn_goes}
-use borrow.Author.Rules.{rules}
+use Rattle.list_conflicts.proofs.Keys.{onward}
 use Rattle.list_conflicts.proofs.equal_on.Given as goal
 
 abbrev pub invariant-loop-j : goal.invariant-loop-j

@@ -4,7 +4,6 @@ use native.Mathlib.Omega.{arith}
 use mathlib.Core.Path.{◌∙◌}
 use Rattle.model.specs.Layout.{base}
 use Rattle.list_conflicts.proofs.Keys.{values_in, few_fields, few_of, part_length, parts_lent, records_on}
-use borrow.Author.Rules.{rules}
 use Rattle.list_conflicts.proofs.records_conflict.Goals as goal
 
 pub base-a-requires : goal.base-a-requires

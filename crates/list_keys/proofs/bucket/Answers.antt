@@ -4,7 +4,6 @@ use native.Mathlib.Omega.{arith}
 use Rattle.model.specs.Layout.{base}
 use Rattle.list_conflicts.proofs.Keys.{values_in, few_fields, few_of, part_length}
 use Rattle.list_keys.proofs.Digests.{bucket_is}
-use borrow.Author.Rules.{rules}
 use Rattle.list_keys.proofs.bucket.Goals as goal
 
 pub base-a-requires : goal.base-a-requires

@@ -1,12 +1,10 @@
 -- `list_keys::copy_marks` meets its contract.
 -- Assumes nothing.
-use Prim.Native.Nat.{◌≤◌, ◌-◌}
-use mathlib.Core.Path.{◌≡◌, refl}
+use Prim.Native.Nat.{◌-◌}
+use mathlib.Core.Path.{refl}
 use native.Mathlib.Omega.{arith}
-use lib.ListN.{length, length-set}
-use Rattle.list_keys.specs.Passes.{Copied}
+use lib.ListN.{length-set}
 use Rattle.list_keys.proofs.Passing.{copied_none, copied_more, copied_to}
-use borrow.Author.Rules.{rules}
 use Rattle.list_keys.proofs.copy_marks.Goals as goal
 
 pub loop-k-init : goal.loop-k-init

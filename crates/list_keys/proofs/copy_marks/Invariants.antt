@@ -1,10 +1,7 @@
 use Prim.Native.Nat.{◌≤◌, ◌-◌}
-use mathlib.Core.Path.{◌≡◌, refl}
-use native.Mathlib.Omega.{arith}
-use lib.ListN.{length, length-set}
+use mathlib.Core.Path.{◌≡◌}
+use lib.ListN.{length}
 use Rattle.list_keys.specs.Passes.{Copied}
-use Rattle.list_keys.proofs.Passing.{copied_none, copied_more, copied_to}
-use borrow.Author.Rules.{rules}
 use Rattle.list_keys.proofs.copy_marks.Given as goal
 
 abbrev pub invariant-loop-k : goal.invariant-loop-k

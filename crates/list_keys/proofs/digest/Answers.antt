@@ -1,12 +1,8 @@
 -- `list_keys::digest` meets its contract.
 -- Assumes nothing.
-use Prim.Native.Nat.{◌≤◌, ◌<◌, ◌-◌}
-use mathlib.Core.Path.{◌≡◌}
+use Prim.Native.Nat.{◌-◌}
 use native.Mathlib.Omega.{arith}
-use Rattle.model.specs.Layout.{field_count}
-use Rattle.list_keys.specs.Buckets.{digests, digest_from, digest_of}
 use Rattle.list_keys.proofs.Digests.{mixed_below, digest_start, digest_turn, digest_end}
-use borrow.Author.Rules.{rules}
 use Rattle.list_keys.proofs.digest.Goals as goal
 
 pub loop-j-init : goal.loop-j-init

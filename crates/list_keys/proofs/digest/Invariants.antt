@@ -1,10 +1,7 @@
 use Prim.Native.Nat.{◌≤◌, ◌<◌, ◌-◌}
 use mathlib.Core.Path.{◌≡◌}
-use native.Mathlib.Omega.{arith}
 use Rattle.model.specs.Layout.{field_count}
 use Rattle.list_keys.specs.Buckets.{digests, digest_from, digest_of}
-use Rattle.list_keys.proofs.Digests.{mixed_below, digest_start, digest_turn, digest_end}
-use borrow.Author.Rules.{rules}
 use Rattle.list_keys.proofs.digest.Given as goal
 
 abbrev pub invariant-loop-j : goal.invariant-loop-j

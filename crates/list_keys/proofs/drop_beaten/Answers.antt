@@ -1,7 +1,6 @@
 -- `list_keys::drop_beaten` meets its contract.
 -- Assumes nothing.
 use Rattle.list_keys.proofs.Bucketed.{chosen}
-use borrow.Author.Rules.{rules}
 use Rattle.list_keys.proofs.drop_beaten.Goals as goal
 
 pub returns-then-beaten : goal.returns-then-beaten

@@ -4,8 +4,7 @@ use Prim.Native.Nat.{◌-◌}
 use mathlib.Core.Path.{refl, sym, ◌∙◌}
 use native.Mathlib.Omega.{arith}
 use Rattle.references.proofs.Places.{used_most}
-use Rattle.list_keys.proofs.Bucketed.{wider, Walk, fall, walk_start, walk_in, walk_next, walk_less, walk_beaten, walk_unbeaten}
-use borrow.Author.Rules.{rules}
+use Rattle.list_keys.proofs.Bucketed.{wider, walk_start, walk_in, walk_next, walk_less, walk_beaten, walk_unbeaten}
 use Rattle.list_keys.proofs.is_beaten.Goals as goal
 
 pub overflow_cast-at : goal.overflow_cast-at

@@ -1,9 +1,5 @@
 use Prim.Native.Nat.{◌-◌}
-use mathlib.Core.Path.{refl, sym, ◌∙◌}
-use native.Mathlib.Omega.{arith}
-use Rattle.references.proofs.Places.{used_most}
-use Rattle.list_keys.proofs.Bucketed.{wider, Walk, fall, walk_start, walk_in, walk_next, walk_less, walk_beaten, walk_unbeaten}
-use borrow.Author.Rules.{rules}
+use Rattle.list_keys.proofs.Bucketed.{Walk, fall}
 use Rattle.list_keys.proofs.is_beaten.Given as goal
 
 abbrev pub invariant-loop-at : goal.invariant-loop-at

@@ -2,7 +2,6 @@
 -- Assumes nothing.
 use Rattle.list_keys.proofs.Digests.{bucket_room}
 use Rattle.list_keys.proofs.Bucketed.{not_beaten, slot_none, slot_some}
-use borrow.Author.Rules.{rules}
 use Rattle.list_keys.proofs.is_beaten_from.Goals as goal
 
 pub returns-then-b-eq-BUCKETS : goal.returns-then-b-eq-BUCKETS

@@ -1,14 +1,9 @@
 -- `list_keys::keep` meets its contract.
 -- Assumes nothing.
-use Prim.Native.Nat.{◌+◌, ◌≤◌, ◌-◌}
-use mathlib.Core.Path.{◌≡◌, refl, ◌∙◌}
+use Prim.Native.Nat.{◌-◌}
+use mathlib.Core.Path.{refl, ◌∙◌}
 use native.Mathlib.Omega.{arith}
-use lib.ListN.{length}
-use Rattle.model.specs.Layout.{most_relations}
-use Rattle.model.specs.Records.{place}
-use Rattle.list_keys.specs.Passes.{Upto}
 use Rattle.list_keys.proofs.Beaten.{upto_none, upto_all}
-use borrow.Author.Rules.{rules}
 use Rattle.list_keys.proofs.keep.Goals as goal
 
 pub loop-r-init : goal.loop-r-init

@@ -1,12 +1,9 @@
 use Prim.Native.Nat.{◌+◌, ◌≤◌, ◌-◌}
-use mathlib.Core.Path.{◌≡◌, refl, ◌∙◌}
-use native.Mathlib.Omega.{arith}
+use mathlib.Core.Path.{◌≡◌}
 use lib.ListN.{length}
 use Rattle.model.specs.Layout.{most_relations}
 use Rattle.model.specs.Records.{place}
 use Rattle.list_keys.specs.Passes.{Upto}
-use Rattle.list_keys.proofs.Beaten.{upto_none, upto_all}
-use borrow.Author.Rules.{rules}
 use Rattle.list_keys.proofs.keep.Given as goal
 
 abbrev pub invariant-loop-r : goal.invariant-loop-r

@@ -1,11 +1,9 @@
 -- `list_keys::keep_along` meets its contract.
 -- Assumes nothing.
-use mathlib.Core.Path.{◌≡◌, refl, ◌∙◌}
+use mathlib.Core.Path.{refl, ◌∙◌}
 use native.Mathlib.Omega.{arith}
-use lib.ListN.{length}
-use Rattle.marks.proofs.Chain.{left, next_less}
-use Rattle.list_keys.proofs.Passing.{Going, going_start, going_on, going_first, going_second, going_next, going_end}
-use borrow.Author.Rules.{rules}
+use Rattle.marks.proofs.Chain.{next_less}
+use Rattle.list_keys.proofs.Passing.{going_start, going_on, going_first, going_second, going_next, going_end}
 use Rattle.list_keys.proofs.keep_along.Goals as goal
 
 pub loop-i-init : goal.loop-i-init

@@ -1,9 +1,7 @@
-use mathlib.Core.Path.{◌≡◌, refl, ◌∙◌}
-use native.Mathlib.Omega.{arith}
+use mathlib.Core.Path.{◌≡◌}
 use lib.ListN.{length}
-use Rattle.marks.proofs.Chain.{left, next_less}
-use Rattle.list_keys.proofs.Passing.{Going, going_start, going_on, going_first, going_second, going_next, going_end}
-use borrow.Author.Rules.{rules}
+use Rattle.marks.proofs.Chain.{left}
+use Rattle.list_keys.proofs.Passing.{Going}
 use Rattle.list_keys.proofs.keep_along.Given as goal
 
 abbrev pub invariant-loop-i : goal.invariant-loop-i

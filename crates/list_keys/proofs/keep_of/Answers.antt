@@ -9,7 +9,6 @@ use Rattle.references.proofs.Places.{used_most}
 use Rattle.list_keys.specs.Buckets.{buckets}
 use Rattle.list_keys.proofs.Beaten.{upto_keyless}
 use Rattle.list_keys.proofs.Passing.{buckets_none}
-use borrow.Author.Rules.{rules}
 use Rattle.list_keys.proofs.keep_of.Goals as goal
 
 pub returns-then-first-second : goal.returns-then-first-second

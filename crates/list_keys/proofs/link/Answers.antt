@@ -1,7 +1,6 @@
 -- `list_keys::link` meets its contract.
 -- Assumes nothing.
 use Rattle.list_keys.proofs.Bucketed.{chosen, left_out, has_bucket}
-use borrow.Author.Rules.{rules}
 use Rattle.list_keys.proofs.link.Goals as goal
 
 pub returns-then-beaten-b : goal.returns-then-beaten-b

@@ -2,7 +2,6 @@
 -- Assumes nothing.
 use mathlib.Core.Path.{sym, ◌∙◌, ap}
 use Rattle.list_keys.proofs.Listed.{mark}
-use borrow.Author.Rules.{rules}
 use Rattle.list_keys.proofs.mark_of.Goals as goal
 
 pub returns-then-is_marked : goal.returns-then-is_marked

@@ -1,7 +1,6 @@
 -- `list_keys::mix` meets its contract.
 -- Assumes nothing.
 use Rattle.list_keys.proofs.Digests.{mix_none, mix_one}
-use borrow.Author.Rules.{rules}
 use Rattle.list_keys.proofs.mix.Goals as goal
 
 pub returns-then-mask-eq0 : goal.returns-then-mask-eq0

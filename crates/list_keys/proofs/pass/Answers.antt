@@ -2,10 +2,8 @@
 -- Assumes nothing.
 use mathlib.Core.Path.{sym, ◌∙◌}
 use native.Mathlib.Omega.{arith}
-use borrow.Author.Tests.{not-true, not-false}
 use Rattle.references.proofs.Places.{used_most}
 use Rattle.list_keys.proofs.Bucketed.{buckets_unmarked, buckets_pass, slot_most, loses_unmarked, loses_marked}
-use borrow.Author.Rules.{rules}
 use Rattle.list_keys.proofs.pass.Goals as goal
 
 pub returns-then-not-is_marked : goal.returns-then-not-is_marked

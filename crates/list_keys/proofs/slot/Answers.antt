@@ -1,8 +1,6 @@
 -- `list_keys::slot` meets its contract.
 -- Assumes nothing.
-use borrow.Author.Tests.{not-true, not-false}
 use Rattle.list_keys.proofs.Bucketed.{slot_empty, slot_own}
-use borrow.Author.Rules.{rules}
 use Rattle.list_keys.proofs.slot.Goals as goal
 
 pub returns-then-not-records_conflict : goal.returns-then-not-records_conflict

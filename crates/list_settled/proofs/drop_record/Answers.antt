@@ -2,7 +2,6 @@
 -- Assumes nothing.
 use mathlib.Core.Path.{sym, ◌∙◌}
 use Rattle.list_settled.proofs.Rounds.{drop_yes, drop_no}
-use borrow.Author.Rules.{rules}
 use Rattle.list_settled.proofs.drop_record.Goals as goal
 
 pub returns-then-is_dropped : goal.returns-then-is_dropped

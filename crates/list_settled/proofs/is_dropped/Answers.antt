@@ -1,7 +1,6 @@
 -- `list_settled::is_dropped` meets its contract.
 -- Assumes nothing.
 use Rattle.list_settled.proofs.Rounds.{stays_out, stays_in}
-use borrow.Author.Rules.{rules}
 use Rattle.std.proofs.lemmas.Bool.{not_from_false, not_from_true}
 use Rattle.list_settled.proofs.is_dropped.Goals as goal
 

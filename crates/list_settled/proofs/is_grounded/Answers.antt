@@ -1,13 +1,10 @@
 -- `list_settled::is_grounded` meets its contract.
 -- Assumes nothing.
-use Prim.Native.Nat.{◌≤◌, ◌-◌}
-use mathlib.Core.Path.{◌≡◌, refl}
+use Prim.Native.Nat.{◌-◌}
+use mathlib.Core.Path.{refl}
 use native.Mathlib.Omega.{arith}
-use Rattle.model.specs.Layout.{fields}
-use Rattle.model.specs.Lists.{each}
 use Rattle.layout.proofs.Each.{each_none}
-use Rattle.list_settled.proofs.Rounds.{lead_test, lead_more, lead_all}
-use borrow.Author.Rules.{rules}
+use Rattle.list_settled.proofs.Rounds.{lead_more, lead_all}
 use Rattle.list_settled.proofs.is_grounded.Goals as goal
 
 pub loop-j-init : goal.loop-j-init

@@ -1,11 +1,8 @@
 use Prim.Native.Nat.{◌≤◌, ◌-◌}
-use mathlib.Core.Path.{◌≡◌, refl}
-use native.Mathlib.Omega.{arith}
+use mathlib.Core.Path.{◌≡◌}
 use Rattle.model.specs.Layout.{fields}
 use Rattle.model.specs.Lists.{each}
-use Rattle.layout.proofs.Each.{each_none}
-use Rattle.list_settled.proofs.Rounds.{lead_test, lead_more, lead_all}
-use borrow.Author.Rules.{rules}
+use Rattle.list_settled.proofs.Rounds.{lead_test}
 use Rattle.list_settled.proofs.is_grounded.Given as goal
 
 abbrev pub invariant-loop-j : goal.invariant-loop-j

@@ -4,7 +4,6 @@ use mathlib.Core.Path.{ap}
 use mathlib.Core.Bool.{Bool, ◌||◌, ◌&&◌, not}
 use lib.Dec.{eqb}
 use Rattle.references.specs.Resolved.{absent}
-use borrow.Author.Rules.{rules}
 use Rattle.list_settled.proofs.leads_on.Goals as goal
 
 pub returns : goal.returns

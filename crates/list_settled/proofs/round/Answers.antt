@@ -1,12 +1,9 @@
 -- `list_settled::round` meets its contract.
 -- Assumes nothing.
-use Prim.Native.Nat.{◌≤◌, ◌-◌}
-use mathlib.Core.Path.{◌≡◌, refl, ◌∙◌}
+use Prim.Native.Nat.{◌-◌}
+use mathlib.Core.Path.{refl, ◌∙◌}
 use native.Mathlib.Omega.{arith}
-use lib.ListN.{length}
-use Rattle.list_settled.specs.Rounds.{round_of, drops_any}
 use Rattle.list_settled.proofs.Rounds.{round_none, any_none, round_more, any_more, round_done, any_done}
-use borrow.Author.Rules.{rules}
 use Rattle.list_settled.proofs.round.Goals as goal
 
 pub loop-i-init : goal.loop-i-init

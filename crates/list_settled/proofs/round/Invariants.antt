@@ -1,10 +1,7 @@
 use Prim.Native.Nat.{◌≤◌, ◌-◌}
-use mathlib.Core.Path.{◌≡◌, refl, ◌∙◌}
-use native.Mathlib.Omega.{arith}
+use mathlib.Core.Path.{◌≡◌}
 use lib.ListN.{length}
 use Rattle.list_settled.specs.Rounds.{round_of, drops_any}
-use Rattle.list_settled.proofs.Rounds.{round_none, any_none, round_more, any_more, round_done, any_done}
-use borrow.Author.Rules.{rules}
 use Rattle.list_settled.proofs.round.Given as goal
 
 abbrev pub invariant-loop-i : goal.invariant-loop-i

@@ -1,13 +1,10 @@
 use Prim.Native.Nat.{ℕ, ◌≤◌, ◌+◌}
-use mathlib.Core.Path.{◌≡◌, refl, ◌∙◌}
+use mathlib.Core.Path.{◌≡◌}
 use mathlib.Core.Bool.{cond, false}
-use native.Mathlib.Omega.{arith}
 use lib.ListN.{length}
 use Rattle.model.specs.Layout.{used_at}
 use Rattle.list_settled.specs.Rounds.{ones, drops_at}
-use Rattle.list_settled.proofs.Between.{Between, between_kept, at_rest}
-use Rattle.list_settled.proofs.Rounds.{turn_between, turn_rests, not_yet, round_less}
-use borrow.Author.Rules.{rules}
+use Rattle.list_settled.proofs.Between.{Between}
 use Rattle.list_settled.proofs.settle.Given as goal
 
 abbrev pub invariant-loop-any : goal.invariant-loop-any

@@ -1,10 +1,10 @@
 -- `list_shown::clear_above` meets its contract.
 -- Assumes nothing.
-use Prim.Native.Nat.{◌≤◌, ◌-◌}
-use mathlib.Core.Path.{◌≡◌, refl}
+use Prim.Native.Nat.{◌-◌}
+use mathlib.Core.Path.{refl}
 use native.Mathlib.Omega.{arith}
-use lib.ListN.{length, length-set}
-use Rattle.list_shown.proofs.Counted.{Cleared, cleared_none, cleared_more, cleared_all}
+use lib.ListN.{length-set}
+use Rattle.list_shown.proofs.Counted.{cleared_none, cleared_more, cleared_all}
 use Rattle.list_shown.proofs.clear_above.Goals as goal
 
 pub loop-i-init : goal.loop-i-init

@@ -1,8 +1,7 @@
 use Prim.Native.Nat.{◌≤◌, ◌-◌}
-use mathlib.Core.Path.{◌≡◌, refl}
-use native.Mathlib.Omega.{arith}
-use lib.ListN.{length, length-set}
-use Rattle.list_shown.proofs.Counted.{Cleared, cleared_none, cleared_more, cleared_all}
+use mathlib.Core.Path.{◌≡◌}
+use lib.ListN.{length}
+use Rattle.list_shown.proofs.Counted.{Cleared}
 use Rattle.list_shown.proofs.clear_above.Given as goal
 
 abbrev pub invariant-loop-i : goal.invariant-loop-i

@@ -1,11 +1,8 @@
 -- `list_shown::count` meets its contract.
 -- Assumes nothing.
 use lib.ListN.{get_or}
-use Prim.Native.Nat.{◌≤◌, ◌-◌, ◌+◌}
-use mathlib.Core.Path.{◌≡◌}
+use Prim.Native.Nat.{◌-◌}
 use native.Mathlib.Omega.{arith}
-use lib.ListN.{length, drop}
-use Rattle.list_settled.specs.Rounds.{ones}
 use Rattle.list_shown.proofs.Counted.{ones_start, ones_more, ones_end, one_most}
 use Rattle.list_shown.proofs.count.Goals as goal
 

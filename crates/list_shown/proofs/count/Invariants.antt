@@ -1,10 +1,7 @@
-use lib.ListN.{get_or}
 use Prim.Native.Nat.{◌≤◌, ◌-◌, ◌+◌}
 use mathlib.Core.Path.{◌≡◌}
-use native.Mathlib.Omega.{arith}
 use lib.ListN.{length, drop}
 use Rattle.list_settled.specs.Rounds.{ones}
-use Rattle.list_shown.proofs.Counted.{ones_start, ones_more, ones_end, one_most}
 use Rattle.list_shown.proofs.count.Given as goal
 
 abbrev pub invariant-loop-i : goal.invariant-loop-i

@@ -3,7 +3,6 @@
 use Rattle.references.specs.Order.{Checked}
 use mathlib.Core.Path.{sym, ◌∙◌}
 use native.Mathlib.Omega.{arith}
-use borrow.Author.Tests.{not-true, not-false}
 use Rattle.list_shown.proofs.Counted.{right_of, rights, room, told_length, told_schema, told_table, told_marked, marks_are, marks_counted}
 use Rattle.list_shown.proofs.marks.Goals as goal
 

@@ -6,7 +6,6 @@ use mathlib.Core.Path.{refl}
 use Rattle.model.specs.Layout.{fields}
 use Rattle.references.proofs.Places.{used_most}
 use Rattle.list_standing.proofs.Work.{target_below, target_propagation, target_empty, target_absent, target_there}
-use borrow.Author.Rules.{rules}
 use Rattle.list_standing.proofs.abort_target.Goals as goal
 
 pub overflow_mul-p : goal.overflow_mul-p

@@ -2,7 +2,6 @@
 -- Assumes nothing.
 use native.Mathlib.Omega.{arith}
 use mathlib.Core.Path.{refl}
-use borrow.Author.Rules.{rules}
 use Rattle.list_standing.proofs.add.Goals as goal
 
 pub returns-then-marks-p-eq1 : goal.returns-then-marks-p-eq1

@@ -1,10 +1,10 @@
 -- `list_standing::clear` meets its contract.
 -- Assumes nothing.
-use Prim.Native.Nat.{◌≤◌, ◌<◌, ◌-◌}
-use mathlib.Core.Path.{◌≡◌, refl}
+use Prim.Native.Nat.{◌<◌, ◌-◌}
+use mathlib.Core.Path.{refl}
 use native.Mathlib.Omega.{arith}
 use lib.ListN.{length, length-set}
-use Rattle.references.proofs.Refs.{Ruled, ruled_more}
+use Rattle.references.proofs.Refs.{ruled_more}
 use Rattle.list_standing.proofs.clear.Goals as goal
 
 pub loop-k-init : goal.loop-k-init

@@ -1,12 +1,11 @@
 -- `list_standing::complete` meets its contract.
 -- Assumes nothing.
-use Prim.Native.Nat.{ℕ, ◌+◌, ◌≤◌, ◌<◌, ◌-◌}
+use Prim.Native.Nat.{◌-◌}
 use mathlib.Core.Path.{◌≡◌, sym, ◌∙◌}
 use native.Mathlib.Omega.{arith}
 use Rattle.model.specs.Layout.{stamp_at, field_count, relation_at}
 use Rattle.references.proofs.Places.{fields_most}
 use Rattle.list_standing.proofs.Fields.{complete_all, complete_not, count_is, stamps_more}
-use borrow.Author.Rules.{rules}
 use Rattle.list_standing.proofs.complete.Goals as goal
 
 pub loop-j-init : goal.loop-j-init

@@ -1,10 +1,6 @@
 use Prim.Native.Nat.{ℕ, ◌+◌, ◌≤◌, ◌<◌, ◌-◌}
-use mathlib.Core.Path.{◌≡◌, sym, ◌∙◌}
-use native.Mathlib.Omega.{arith}
-use Rattle.model.specs.Layout.{stamp_at, field_count, relation_at}
-use Rattle.references.proofs.Places.{fields_most}
-use Rattle.list_standing.proofs.Fields.{complete_all, complete_not, count_is, stamps_more}
-use borrow.Author.Rules.{rules}
+use mathlib.Core.Path.{◌≡◌}
+use Rattle.model.specs.Layout.{stamp_at}
 use Rattle.list_standing.proofs.complete.Given as goal
 
 abbrev pub invariant-loop-j : goal.invariant-loop-j

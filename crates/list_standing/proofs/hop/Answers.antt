@@ -6,7 +6,6 @@ use mathlib.Core.Path.{sym, ◌∙◌}
 use Rattle.references.proofs.Places.{used_most, fields_most}
 use Rattle.list_standing.proofs.Members.{hop_stands}
 use Rattle.list_standing.proofs.Work.{more_same, queue_more, queue_add, hop_none, hop_incomplete, hop_marked}
-use borrow.Author.Rules.{rules}
 use Rattle.list_standing.proofs.hop.Goals as goal
 
 pub abort_target-p-requires : goal.abort_target-p-requires

@@ -1,7 +1,6 @@
 -- `list_standing::is_live` meets its contract.
 -- Assumes nothing.
 use Rattle.list_standing.proofs.Fields.{live_is}
-use borrow.Author.Rules.{rules}
 use Rattle.list_standing.proofs.is_live.Goals as goal
 
 pub returns : goal.returns

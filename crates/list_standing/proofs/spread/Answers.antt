@@ -1,13 +1,10 @@
 -- `list_standing::spread` meets its contract.
 -- Assumes nothing.
-use Prim.Native.Nat.{◌≤◌, ◌-◌}
+use Prim.Native.Nat.{◌-◌}
 use native.Mathlib.Omega.{arith}
 use mathlib.Core.Path.{◌≡◌, refl, ◌∙◌}
-use lib.ListN.{length}
-use Rattle.model.specs.Layout.{used_at}
 use Rattle.references.proofs.Places.{used_most}
-use Rattle.list_standing.specs.Work.{Queue, Live}
-use Rattle.list_standing.proofs.Work.{queue_room, live_keep, Done, done_none, done_more, all_marked}
+use Rattle.list_standing.proofs.Work.{queue_room, live_keep, done_none, done_more, all_marked}
 use Rattle.list_standing.proofs.spread.Goals as goal
 
 pub loop-k-init : goal.loop-k-init

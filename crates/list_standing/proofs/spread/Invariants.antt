@@ -1,11 +1,9 @@
 use Prim.Native.Nat.{◌≤◌, ◌-◌}
-use native.Mathlib.Omega.{arith}
-use mathlib.Core.Path.{◌≡◌, refl, ◌∙◌}
+use mathlib.Core.Path.{◌≡◌}
 use lib.ListN.{length}
 use Rattle.model.specs.Layout.{used_at}
-use Rattle.references.proofs.Places.{used_most}
 use Rattle.list_standing.specs.Work.{Queue, Live}
-use Rattle.list_standing.proofs.Work.{queue_room, live_keep, Done, done_none, done_more, all_marked}
+use Rattle.list_standing.proofs.Work.{Done}
 use Rattle.list_standing.proofs.spread.Given as goal
 
 abbrev pub invariant-loop-k : goal.invariant-loop-k

@@ -2,7 +2,6 @@
 -- Assumes nothing.
 use mathlib.Core.Path.{refl}
 use Rattle.list_standing.proofs.Work.{clear_to, long_as}
-use borrow.Author.Rules.{rules}
 use Rattle.list_standing.proofs.stand.Goals as goal
 
 pub start-n-requires : goal.start-n-requires

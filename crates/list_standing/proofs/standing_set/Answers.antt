@@ -6,7 +6,6 @@ use Rattle.model.specs.Layout.{fields, most_records, used_at}
 use Rattle.references.proofs.Room.{array_room}
 use Rattle.references.proofs.Places.{used_most}
 use Rattle.list_standing.proofs.Work.{zeros_room}
-use borrow.Author.Rules.{rules}
 use Rattle.list_standing.proofs.standing_set.Goals as goal
 
 pub resolve-requires : goal.resolve-requires

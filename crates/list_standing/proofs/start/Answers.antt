@@ -1,12 +1,9 @@
 -- `list_standing::start` meets its contract.
 -- Assumes nothing.
-use Prim.Native.Nat.{◌≤◌, ◌-◌}
+use Prim.Native.Nat.{◌-◌}
 use native.Mathlib.Omega.{arith}
-use mathlib.Core.Path.{◌≡◌, refl, ◌∙◌}
-use lib.ListN.{length}
-use Rattle.list_standing.specs.Work.{Queue}
-use Rattle.list_standing.proofs.Work.{queue_none, LiveTo, live_none, live_more}
-use borrow.Author.Rules.{rules}
+use mathlib.Core.Path.{refl, ◌∙◌}
+use Rattle.list_standing.proofs.Work.{queue_none, live_none, live_more}
 use Rattle.list_standing.proofs.start.Goals as goal
 
 pub loop-i-init : goal.loop-i-init

@@ -1,10 +1,8 @@
 use Prim.Native.Nat.{◌≤◌, ◌-◌}
-use native.Mathlib.Omega.{arith}
-use mathlib.Core.Path.{◌≡◌, refl, ◌∙◌}
+use mathlib.Core.Path.{◌≡◌}
 use lib.ListN.{length}
 use Rattle.list_standing.specs.Work.{Queue}
-use Rattle.list_standing.proofs.Work.{queue_none, LiveTo, live_none, live_more}
-use borrow.Author.Rules.{rules}
+use Rattle.list_standing.proofs.Work.{LiveTo}
 use Rattle.list_standing.proofs.start.Given as goal
 
 abbrev pub invariant-loop-i : goal.invariant-loop-i

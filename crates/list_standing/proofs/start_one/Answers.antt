@@ -6,7 +6,6 @@ use Rattle.crdt.proofs.Tests.{clash}
 use Rattle.references.proofs.Places.{used_most}
 use Rattle.list_standing.proofs.Members.{live_stands}
 use Rattle.list_standing.proofs.Work.{more_same, queue_more, queue_add}
-use borrow.Author.Rules.{rules}
 use Rattle.list_standing.proofs.start_one.Goals as goal
 
 pub add-requires : goal.add-requires

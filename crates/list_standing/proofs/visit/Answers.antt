@@ -1,14 +1,11 @@
 -- `list_standing::visit` meets its contract.
 -- Assumes nothing.
-use Prim.Native.Nat.{◌≤◌, ◌-◌}
+use Prim.Native.Nat.{◌-◌}
 use native.Mathlib.Omega.{arith}
 use mathlib.Core.Path.{◌≡◌, refl, ◌∙◌}
-use lib.ListN.{length}
 use Rattle.model.specs.Layout.{field_count, relation_at}
-use Rattle.list_standing.specs.Work.{Queue, More, Visited}
 use Rattle.list_standing.proofs.Fields.{count_is}
 use Rattle.list_standing.proofs.Work.{more_same, more_more, visited_none, visited_more}
-use borrow.Author.Rules.{rules}
 use Rattle.list_standing.proofs.visit.Goals as goal
 
 pub loop-j-init : goal.loop-j-init

@@ -1,12 +1,7 @@
 use Prim.Native.Nat.{◌≤◌, ◌-◌}
-use native.Mathlib.Omega.{arith}
-use mathlib.Core.Path.{◌≡◌, refl, ◌∙◌}
+use mathlib.Core.Path.{◌≡◌}
 use lib.ListN.{length}
-use Rattle.model.specs.Layout.{field_count, relation_at}
 use Rattle.list_standing.specs.Work.{Queue, More, Visited}
-use Rattle.list_standing.proofs.Fields.{count_is}
-use Rattle.list_standing.proofs.Work.{more_same, more_more, visited_none, visited_more}
-use borrow.Author.Rules.{rules}
 use Rattle.list_standing.proofs.visit.Given as goal
 
 abbrev pub invariant-loop-j : goal.invariant-loop-j

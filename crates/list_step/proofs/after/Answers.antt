@@ -1,10 +1,7 @@
 -- `list_step::after` meets its contract.
 -- Assumes nothing.
 use mathlib.Core.Path.{sym, ◌∙◌}
-use Rattle.model.specs.Tables.{decode}
-use Rattle.model.specs.Calls.{place_key}
-use Rattle.list_step.proofs.Cursor.{Cursor, ahead, turn, turn_less, goes_past, goes_far, start_past, start_far, gives}
-use borrow.Author.Rules.{rules}
+use Rattle.list_step.proofs.Cursor.{turn, turn_less, goes_past, goes_far, start_past, start_far, gives}
 use Rattle.list_step.proofs.after.Goals as goal
 
 pub next_index-i-requires : goal.next_index-i-requires

@@ -1,8 +1,6 @@
-use mathlib.Core.Path.{sym, ◌∙◌}
 use Rattle.model.specs.Tables.{decode}
 use Rattle.model.specs.Calls.{place_key}
-use Rattle.list_step.proofs.Cursor.{Cursor, ahead, turn, turn_less, goes_past, goes_far, start_past, start_far, gives}
-use borrow.Author.Rules.{rules}
+use Rattle.list_step.proofs.Cursor.{Cursor, ahead}
 use Rattle.list_step.proofs.after.Given as goal
 
 abbrev pub invariant-loop-n : goal.invariant-loop-n

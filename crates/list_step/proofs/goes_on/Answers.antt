@@ -3,7 +3,6 @@
 use mathlib.Core.Path.{refl, ap}
 use mathlib.Core.Bool.{not}
 use Rattle.list_step.proofs.Cursor.{zero_pick, more_pick}
-use borrow.Author.Rules.{rules}
 use Rattle.list_step.proofs.goes_on.Goals as goal
 
 pub returns-then-i-eq0 : goal.returns-then-i-eq0

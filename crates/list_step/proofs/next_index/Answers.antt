@@ -1,7 +1,6 @@
 -- `list_step::next_index` meets its contract.
 -- Assumes nothing.
 use Rattle.list_step.proofs.Cursor.{zero_pick, more_pick}
-use borrow.Author.Rules.{rules}
 use Rattle.list_step.proofs.next_index.Goals as goal
 
 pub returns-then-i-eq0 : goal.returns-then-i-eq0

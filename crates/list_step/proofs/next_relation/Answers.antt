@@ -2,7 +2,6 @@
 -- Assumes nothing.
 use mathlib.Core.Path.{refl}
 use Rattle.list_step.proofs.Cursor.{zero_pick, more_pick}
-use borrow.Author.Rules.{rules}
 use Rattle.list_step.proofs.next_relation.Goals as goal
 
 pub returns-then-i-eq0 : goal.returns-then-i-eq0

@@ -2,7 +2,6 @@
 -- Assumes nothing.
 use mathlib.Core.Path.{refl}
 use Rattle.list_step.proofs.Cursor.{zero_pick, more_pick}
-use borrow.Author.Rules.{rules}
 use Rattle.list_step.proofs.relation_of.Goals as goal
 
 pub returns-then-place-eq0 : goal.returns-then-place-eq0

@@ -1,9 +1,7 @@
 -- `list_step::step` meets its contract.
 -- Assumes nothing.
 use mathlib.Core.Path.{sym, ◌∙◌}
-use borrow.Author.Tests.{not-true, not-false}
 use Rattle.list_step.proofs.Steps.{right, told_length, told_schema, told_table, told_given, told_record, is_sound}
-use borrow.Author.Rules.{rules}
 use Rattle.list_step.proofs.step.Goals as goal
 
 pub returns-then-wrong_length : goal.returns-then-wrong_length

@@ -1,7 +1,6 @@
 -- `list_step::wrong_length` meets its contract.
 -- Assumes nothing.
 use Rattle.list_step.proofs.Steps.{wrong_is}
-use borrow.Author.Rules.{rules}
 use Rattle.list_step.proofs.wrong_length.Goals as goal
 
 pub returns : goal.returns

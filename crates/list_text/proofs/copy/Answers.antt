@@ -1,10 +1,8 @@
 -- `list_text::copy` meets its contract.
 -- Assumes nothing.
-use Prim.Native.Nat.{◌≤◌, ◌-◌}
+use Prim.Native.Nat.{◌-◌}
 use native.Mathlib.Omega.{arith}
-use lib.ListN.{length, drop}
-use Rattle.list_text.proofs.Laying.{Leads, leads_start, copy_on, copy_end}
-use borrow.Author.Rules.{rules}
+use Rattle.list_text.proofs.Laying.{leads_start, copy_on, copy_end}
 use Rattle.list_text.proofs.copy.Goals as goal
 
 pub loop-i-init : goal.loop-i-init

@@ -1,8 +1,6 @@
 use Prim.Native.Nat.{◌≤◌, ◌-◌}
-use native.Mathlib.Omega.{arith}
 use lib.ListN.{length, drop}
-use Rattle.list_text.proofs.Laying.{Leads, leads_start, copy_on, copy_end}
-use borrow.Author.Rules.{rules}
+use Rattle.list_text.proofs.Laying.{Leads}
 use Rattle.list_text.proofs.copy.Given as goal
 
 abbrev pub invariant-loop-i : goal.invariant-loop-i

@@ -1,7 +1,6 @@
 -- `list_text::field` meets its contract.
 -- Assumes nothing.
 use Rattle.list_text.proofs.Laying.{then}
-use borrow.Author.Rules.{rules}
 use Rattle.list_text.proofs.field.Goals as goal
 
 pub returns : goal.returns

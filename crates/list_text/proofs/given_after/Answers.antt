@@ -2,7 +2,6 @@
 -- Assumes nothing.
 use mathlib.Core.Path.{◌∙◌, ap}
 use Rattle.answers.specs.Told.{Told}
-use borrow.Author.Rules.{rules}
 use Rattle.list_text.proofs.given_after.Goals as goal
 
 pub returns : goal.returns

@@ -1,7 +1,6 @@
 -- `list_text::head` meets its contract.
 -- Assumes nothing.
 use Rattle.list_text.proofs.Fields.{placed_head}
-use borrow.Author.Rules.{rules}
 use Rattle.list_text.proofs.head.Goals as goal
 
 pub returns : goal.returns

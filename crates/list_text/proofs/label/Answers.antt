@@ -1,7 +1,6 @@
 -- `list_text::label` meets its contract.
 -- Assumes nothing.
 use Rattle.list_text.proofs.Fields.{placed_label}
-use borrow.Author.Rules.{rules}
 use Rattle.list_text.proofs.label.Goals as goal
 
 pub returns : goal.returns

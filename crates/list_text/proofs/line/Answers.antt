@@ -1,7 +1,6 @@
 -- `list_text::line` meets its contract.
 -- Assumes nothing.
 use Rattle.list_text.proofs.Fields.{placed_line}
-use borrow.Author.Rules.{rules}
 use Rattle.list_text.proofs.line.Goals as goal
 
 pub returns : goal.returns

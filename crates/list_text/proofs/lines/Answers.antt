@@ -1,9 +1,7 @@
 -- `list_text::lines` meets its contract.
 -- Assumes nothing.
 use native.Mathlib.Omega.{arith}
-use Rattle.list_text.proofs.Laying.{Leads}
-use Rattle.list_text.proofs.Turns.{lines_from, all_lines, lines_start, lines_left, lines_on, lines_end}
-use borrow.Author.Rules.{rules}
+use Rattle.list_text.proofs.Turns.{lines_start, lines_left, lines_on, lines_end}
 use Rattle.list_text.proofs.lines.Goals as goal
 
 pub loop-left-init : goal.loop-left-init

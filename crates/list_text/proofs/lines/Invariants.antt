@@ -1,7 +1,5 @@
-use native.Mathlib.Omega.{arith}
 use Rattle.list_text.proofs.Laying.{Leads}
-use Rattle.list_text.proofs.Turns.{lines_from, all_lines, lines_start, lines_left, lines_on, lines_end}
-use borrow.Author.Rules.{rules}
+use Rattle.list_text.proofs.Turns.{lines_from, all_lines}
 use Rattle.list_text.proofs.lines.Given as goal
 
 abbrev pub invariant-loop-left : goal.invariant-loop-left

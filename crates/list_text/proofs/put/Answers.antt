@@ -1,6 +1,5 @@
 -- `list_text::put` meets its contract.
 -- Assumes nothing.
-use borrow.Author.Rules.{rules}
 use Rattle.list_text.proofs.Laying.{one_fits, one_out}
 use Rattle.list_text.proofs.put.Goals as goal
 

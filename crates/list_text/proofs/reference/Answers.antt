@@ -1,7 +1,6 @@
 -- `list_text::reference` meets its contract.
 -- Assumes nothing.
 use Rattle.list_text.proofs.Fields.{placed_empty, placed_reference}
-use borrow.Author.Rules.{rules}
 use Rattle.list_text.proofs.reference.Goals as goal
 
 pub returns-then-x-eq0 : goal.returns-then-x-eq0

@@ -1,7 +1,6 @@
 -- `list_text::refused` meets its contract.
 -- Assumes nothing.
 use Rattle.list_text.specs.Text.{refused_text}
-use borrow.Author.Rules.{rules}
 use Rattle.list_text.proofs.refused.Goals as goal
 
 pub returns : goal.returns

@@ -2,7 +2,6 @@
 -- Assumes nothing.
 use Rattle.list_text.specs.Text.{shown_text}
 use Rattle.list_text.proofs.Laying.{then}
-use borrow.Author.Rules.{rules}
 use Rattle.list_text.proofs.shown.Goals as goal
 
 pub returns : goal.returns

@@ -1,7 +1,6 @@
 -- `list_text::told` meets its contract.
 -- Assumes nothing.
 use Rattle.list_text.proofs.Fields.{placed_told}
-use borrow.Author.Rules.{rules}
 use Rattle.list_text.proofs.told.Goals as goal
 
 pub returns : goal.returns

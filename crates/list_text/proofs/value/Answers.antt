@@ -1,7 +1,6 @@
 -- `list_text::value` meets its contract.
 -- Assumes nothing.
 use Rattle.list_text.proofs.Fields.{placed_plain, placed_kind}
-use borrow.Author.Rules.{rules}
 use Rattle.list_text.proofs.value.Goals as goal
 
 pub returns-then-kind-lt-ABORT : goal.returns-then-kind-lt-ABORT

@@ -1,14 +1,10 @@
 -- `list_text::values` meets its contract.
 -- Assumes nothing.
-use Prim.Native.Nat.{◌≤◌, ◌-◌}
-use mathlib.Core.Path.{◌≡◌}
+use Prim.Native.Nat.{◌-◌}
 use native.Mathlib.Omega.{arith}
 use Rattle.model.specs.Layout.{field_count, kind_at, value_at}
-use Rattle.model.specs.Lists.{listed}
-use Rattle.list_text.specs.Text.{values_text}
-use Rattle.list_text.proofs.Laying.{Leads, leads_start, leads_as}
-use Rattle.list_text.proofs.Fields.{rest, rest_start, values_on, values_end}
-use borrow.Author.Rules.{rules}
+use Rattle.list_text.proofs.Laying.{leads_start, leads_as}
+use Rattle.list_text.proofs.Fields.{rest_start, values_on, values_end}
 use Rattle.list_text.proofs.values.Goals as goal
 
 pub loop-j-init : goal.loop-j-init

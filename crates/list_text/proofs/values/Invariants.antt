@@ -1,12 +1,10 @@
 use Prim.Native.Nat.{◌≤◌, ◌-◌}
 use mathlib.Core.Path.{◌≡◌}
-use native.Mathlib.Omega.{arith}
 use Rattle.model.specs.Layout.{field_count, kind_at, value_at}
 use Rattle.model.specs.Lists.{listed}
 use Rattle.list_text.specs.Text.{values_text}
-use Rattle.list_text.proofs.Laying.{Leads, leads_start, leads_as}
-use Rattle.list_text.proofs.Fields.{rest, rest_start, values_on, values_end}
-use borrow.Author.Rules.{rules}
+use Rattle.list_text.proofs.Laying.{Leads}
+use Rattle.list_text.proofs.Fields.{rest}
 use Rattle.list_text.proofs.values.Given as goal
 
 abbrev pub invariant-loop-j : goal.invariant-loop-j

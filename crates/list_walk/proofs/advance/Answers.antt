@@ -1,7 +1,6 @@
 -- `list_walk::advance` meets its contract.
 -- Assumes nothing.
 use Rattle.list_step.proofs.Steps.{place_after}
-use borrow.Author.Rules.{rules}
 use Rattle.list_walk.proofs.advance.Goals as goal
 
 pub returns : goal.returns

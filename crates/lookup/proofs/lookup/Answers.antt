@@ -2,11 +2,9 @@
 -- Assumes nothing.
 use mathlib.Core.Path.{◌≡◌, sym, ◌∙◌}
 use mathlib.Core.Bool.{true, false, ◌&&◌}
-use borrow.Author.Tests.{not-true, not-false}
 use Rattle.model.specs.Schemas.{broken}
 use Rattle.model.specs.Calls.{schema_length, table_length}
 use Rattle.lookup.proofs.Answers.{lengths_are, heads_are, relation_is, told_1, told_2, told_heads, may_seek, told_sought}
-use borrow.Author.Rules.{rules}
 use Rattle.std.proofs.lemmas.Bool.{not_from_false, not_from_true}
 use Rattle.lookup.proofs.lookup.Goals as goal
 

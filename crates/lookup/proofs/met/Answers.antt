@@ -1,7 +1,6 @@
 -- `lookup::met` meets its contract.
 -- Assumes nothing.
 use Rattle.lookup.proofs.Stops.{met_here, met_past}
-use borrow.Author.Rules.{rules}
 use Rattle.lookup.proofs.met.Goals as goal
 
 pub returns-then-label_at-label : goal.returns-then-label_at-label

@@ -2,7 +2,6 @@
 -- Assumes nothing.
 use mathlib.Core.Path.{sym, ◌∙◌}
 use Rattle.lookup.proofs.Stops.{told_broken, told_at, told_end}
-use borrow.Author.Rules.{rules}
 use Rattle.lookup.proofs.seek.Goals as goal
 
 pub returns-in-Broken : goal.returns-in-Broken

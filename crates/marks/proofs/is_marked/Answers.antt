@@ -2,7 +2,6 @@
 -- Assumes nothing.
 use native.Mathlib.Omega.{arith}
 use Rattle.marks.proofs.Marks.{marked_none, marked_past, marked_here}
-use borrow.Author.Rules.{rules}
 use Rattle.marks.proofs.is_marked.Goals as goal
 
 pub returns-then-i-lt1 : goal.returns-then-i-lt1

@@ -2,7 +2,6 @@
 -- Assumes nothing.
 use Prim.Native.Nat.{ℕ}
 use mathlib.Core.Path.{ap, sym, ◌∙◌}
-use borrow.Author.Tests.{not-true, not-false}
 use Rattle.answers.specs.Told.{told}
 use Rattle.merge_laws.proofs.Wholes.{lengths_are, first_asked, second_asked, both_whole}
 use Rattle.merge.proofs.Answers.{number_1, number_2, number_3, number_4, number_11, number_0}

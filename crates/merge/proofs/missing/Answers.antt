@@ -1,11 +1,9 @@
 -- `merge::missing` meets its contract. The loop's invariant: the count, and what is missing from the relation on, make what is missing in all.
 -- Assumes nothing.
-use Prim.Native.Nat.{◌≤◌, ◌+◌, ◌-◌}
-use mathlib.Core.Path.{◌≡◌}
+use Prim.Native.Nat.{◌-◌}
 use native.Mathlib.Omega.{arith}
-use Rattle.model.specs.Layout.{most_relations}
 use Rattle.model.specs.Records.{place}
-use Rattle.merge_laws.specs.Absorb.{records_in, missing}
+use Rattle.merge_laws.specs.Absorb.{records_in}
 use Rattle.merge_laws.proofs.Chain.{missing_within}
 use Rattle.merge.proofs.Counts.{count_all}
 use Rattle.merge.proofs.missing.Goals as goal

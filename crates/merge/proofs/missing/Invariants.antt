@@ -1,11 +1,8 @@
 use Prim.Native.Nat.{◌≤◌, ◌+◌, ◌-◌}
 use mathlib.Core.Path.{◌≡◌}
-use native.Mathlib.Omega.{arith}
 use Rattle.model.specs.Layout.{most_relations}
 use Rattle.model.specs.Records.{place}
 use Rattle.merge_laws.specs.Absorb.{records_in, missing}
-use Rattle.merge_laws.proofs.Chain.{missing_within}
-use Rattle.merge.proofs.Counts.{count_all}
 use Rattle.merge.proofs.missing.Given as goal
 
 abbrev pub invariant-loop-relation : goal.invariant-loop-relation

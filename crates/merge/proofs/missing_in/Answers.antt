@@ -3,8 +3,7 @@
 use mathlib.Core.Path.{refl}
 use native.Mathlib.Omega.{arith}
 use Rattle.merge.proofs.Counts.{count_seeks, count_turn, count_done, absent_small}
-use Rattle.merge_laws.specs.Absorb.{records_in, ahead}
-use Rattle.merge_laws.proofs.Chain.{Counting, count_start, count_within, count_less}
+use Rattle.merge_laws.proofs.Chain.{count_start, count_within, count_less}
 use Rattle.merge.proofs.missing_in.Goals as goal
 
 pub loop-j-init : goal.loop-j-init

@@ -1,7 +1,6 @@
 -- `merge_act::act` meets its contract. The chains are taken in, then the clock becomes the larger one.
 -- Assumes nothing.
 use Rattle.merge_act.proofs.Forms.{act_is}
-use borrow.Author.Rules.{rules}
 use Rattle.merge_act.proofs.act.Goals as goal
 
 pub returns : goal.returns

@@ -1,7 +1,6 @@
 -- `merge_act::take` meets its contract. The record is spaced, then joined; it counts where it changed or is past the old ones.
 -- Assumes nothing.
 use Rattle.merge_act.proofs.Forms.{take_space, take_join, take_is, take_one, take_none}
-use borrow.Author.Rules.{rules}
 use Rattle.merge_act.proofs.take.Goals as goal
 
 pub space-i-requires : goal.space-i-requires

@@ -1,12 +1,9 @@
 -- `merge_act::take_chain` meets its contract. The loop's invariant: what is left to take in gives the same records as all did, and the count is short by what it changes. The measure is what is left of the other chain.
 -- Assumes nothing.
-use mathlib.Core.Path.{◌≡◌, refl, ◌∙◌}
+use mathlib.Core.Path.{refl, ◌∙◌}
 use native.Mathlib.Omega.{arith}
-use lib.ListN.{length}
-use Rattle.merge_laws.specs.Absorb.{records_in, ahead}
-use Rattle.merge_laws.proofs.Chain.{Along, along_start, along_less, along_within}
+use Rattle.merge_laws.proofs.Chain.{along_start, along_less, along_within}
 use Rattle.merge_act.proofs.Forms.{chain_seeks, chain_takes, chain_turn, chain_done}
-use borrow.Author.Rules.{rules}
 use Rattle.merge_act.proofs.take_chain.Goals as goal
 
 pub overflow_sub-link : goal.overflow_sub-link

@@ -1,10 +1,7 @@
-use mathlib.Core.Path.{◌≡◌, refl, ◌∙◌}
-use native.Mathlib.Omega.{arith}
+use mathlib.Core.Path.{◌≡◌}
 use lib.ListN.{length}
 use Rattle.merge_laws.specs.Absorb.{records_in, ahead}
-use Rattle.merge_laws.proofs.Chain.{Along, along_start, along_less, along_within}
-use Rattle.merge_act.proofs.Forms.{chain_seeks, chain_takes, chain_turn, chain_done}
-use borrow.Author.Rules.{rules}
+use Rattle.merge_laws.proofs.Chain.{Along}
 use Rattle.merge_act.proofs.take_chain.Given as goal
 
 abbrev pub invariant-loop-j : goal.invariant-loop-j

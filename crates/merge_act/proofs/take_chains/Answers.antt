@@ -1,15 +1,10 @@
 -- `merge_act::take_chains` meets its contract. The loop's invariant: what is left to take in, from the relation on, gives the same records as all did, and the count is short by what it changes.
 -- Assumes nothing.
-use Prim.Native.Nat.{◌≤◌, ◌+◌, ◌-◌}
-use mathlib.Core.Path.{◌≡◌, refl, ◌∙◌}
+use Prim.Native.Nat.{◌-◌}
+use mathlib.Core.Path.{refl, ◌∙◌}
 use native.Mathlib.Omega.{arith}
-use lib.ListN.{length}
-use Rattle.model.specs.Layout.{most_relations}
-use Rattle.model.specs.Records.{place}
-use Rattle.merge_laws.specs.Absorb.{records_in, Taken}
 use Rattle.merge_laws.proofs.Chain.{taken_none, taken_more, taken_within, chained}
 use Rattle.merge_act.proofs.Forms.{chains_all, chains_count}
-use borrow.Author.Rules.{rules}
 use Rattle.merge_act.proofs.take_chains.Goals as goal
 
 pub loop-relation-init : goal.loop-relation-init

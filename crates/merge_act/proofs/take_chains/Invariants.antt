@@ -1,13 +1,9 @@
 use Prim.Native.Nat.{◌≤◌, ◌+◌, ◌-◌}
-use mathlib.Core.Path.{◌≡◌, refl, ◌∙◌}
-use native.Mathlib.Omega.{arith}
+use mathlib.Core.Path.{◌≡◌}
 use lib.ListN.{length}
 use Rattle.model.specs.Layout.{most_relations}
 use Rattle.model.specs.Records.{place}
 use Rattle.merge_laws.specs.Absorb.{records_in, Taken}
-use Rattle.merge_laws.proofs.Chain.{taken_none, taken_more, taken_within, chained}
-use Rattle.merge_act.proofs.Forms.{chains_all, chains_count}
-use borrow.Author.Rules.{rules}
 use Rattle.merge_act.proofs.take_chains.Given as goal
 
 abbrev pub invariant-loop-relation : goal.invariant-loop-relation

@@ -1,7 +1,6 @@
 -- `merge_join::join` meets its contract. The flag, then the registers.
 -- Assumes nothing.
 use Rattle.merge_join.proofs.Forms.{join_is, join_changed}
-use borrow.Author.Rules.{rules}
 use Rattle.merge_join.proofs.join.Goals as goal
 
 pub returns : goal.returns

@@ -5,7 +5,6 @@ use native.Mathlib.Omega.{arith}
 use Rattle.model.specs.Layout.{base}
 use borrow.Author.Tests.{not-true, not-false}
 use Rattle.merge_join.proofs.Forms.{field_is, field_stays, field_changed_lem}
-use borrow.Author.Rules.{rules}
 use Rattle.merge_join.proofs.join_field.Goals as goal
 
 pub returns-then-not-joined : goal.returns-then-not-joined

@@ -1,14 +1,9 @@
 -- `merge_join::join_fields` meets its contract. The loop's invariant: the first fields are joined.
 -- Assumes nothing.
 use mathlib.Core.Path.{refl, ◌∙◌}
-use lib.ListN.{length}
-use Prim.Native.Nat.{◌≤◌, ◌-◌}
-use mathlib.Core.Path.{◌≡◌}
+use Prim.Native.Nat.{◌-◌}
 use native.Mathlib.Omega.{arith}
-use Rattle.model.specs.Layout.{fields}
-use Rattle.merge_laws.specs.Absorb.{fields_joined, fields_changed}
 use Rattle.merge_join.proofs.Forms.{fields_none, fields_more, fields_all, changed_none, changed_more, changed_all}
-use borrow.Author.Rules.{rules}
 use Rattle.merge_join.proofs.join_fields.Goals as goal
 
 pub loop-done-init : goal.loop-done-init

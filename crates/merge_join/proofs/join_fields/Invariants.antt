@@ -1,12 +1,8 @@
-use mathlib.Core.Path.{refl, ◌∙◌}
 use lib.ListN.{length}
 use Prim.Native.Nat.{◌≤◌, ◌-◌}
 use mathlib.Core.Path.{◌≡◌}
-use native.Mathlib.Omega.{arith}
 use Rattle.model.specs.Layout.{fields}
 use Rattle.merge_laws.specs.Absorb.{fields_joined, fields_changed}
-use Rattle.merge_join.proofs.Forms.{fields_none, fields_more, fields_all, changed_none, changed_more, changed_all}
-use borrow.Author.Rules.{rules}
 use Rattle.merge_join.proofs.join_fields.Given as goal
 
 abbrev pub invariant-loop-done : goal.invariant-loop-done

@@ -3,7 +3,6 @@
 use native.Mathlib.Omega.{arith}
 use Rattle.model.specs.Layout.{base}
 use Rattle.merge_join.proofs.Forms.{flag_is, flag_changed_lem}
-use borrow.Author.Rules.{rules}
 use Rattle.merge_join.proofs.join_flag.Goals as goal
 
 pub overflow_add-base : goal.overflow_add-base

@@ -3,7 +3,6 @@
 use native.Mathlib.Omega.{arith}
 use Rattle.model.specs.Layout.{base}
 use Rattle.merge_seek.proofs.Forms.{added_is}
-use borrow.Author.Rules.{rules}
 use Rattle.merge_seek.proofs.add.Goals as goal
 
 pub overflow_add-at : goal.overflow_add-at

@@ -1,7 +1,6 @@
 -- `merge_seek::precedes` meets its contract. A record's label against the one sought.
 -- Assumes nothing.
 use Rattle.merge_seek.proofs.Forms.{precedes_is}
-use borrow.Author.Rules.{rules}
 use Rattle.merge_seek.proofs.precedes.Goals as goal
 
 pub returns : goal.returns

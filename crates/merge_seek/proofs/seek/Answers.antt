@@ -1,12 +1,9 @@
 -- `merge_seek::seek` meets its contract. The loop's invariant: the link is one of the relation, with smaller labels before it. The measure is what is left of the chain.
 -- Assumes nothing.
-use Prim.Native.Nat.{ℕ, ◌≤◌}
 use mathlib.Core.Path.{sym, ◌∙◌}
 use native.Mathlib.Omega.{arith}
-use Rattle.model.specs.Layout.{most_relations, word}
-use Rattle.merge_laws.specs.Absorb.{records_in, ahead, Linked}
+use Rattle.model.specs.Layout.{word}
 use Rattle.merge_seek.proofs.Forms.{seek_in, seek_less, seek_again, seek_done}
-use borrow.Author.Rules.{rules}
 use Rattle.merge_seek.proofs.seek.Goals as goal
 
 pub loop-link-init : goal.loop-link-init

@@ -1,10 +1,6 @@
 use Prim.Native.Nat.{ℕ, ◌≤◌}
-use mathlib.Core.Path.{sym, ◌∙◌}
-use native.Mathlib.Omega.{arith}
 use Rattle.model.specs.Layout.{most_relations, word}
 use Rattle.merge_laws.specs.Absorb.{records_in, ahead, Linked}
-use Rattle.merge_seek.proofs.Forms.{seek_in, seek_less, seek_again, seek_done}
-use borrow.Author.Rules.{rules}
 use Rattle.merge_seek.proofs.seek.Given as goal
 
 abbrev pub invariant-loop-link : goal.invariant-loop-link

@@ -3,7 +3,6 @@
 use mathlib.Core.Path.{sym, ◌∙◌}
 use Rattle.merge_laws.proofs.Take.{space_here, space_new}
 use Rattle.merge_seek.proofs.Forms.{used_most}
-use borrow.Author.Rules.{rules}
 use Rattle.merge_seek.proofs.space.Goals as goal
 
 pub returns-then-meets : goal.returns-then-meets

@@ -2,7 +2,6 @@
 -- Assumes nothing.
 use mathlib.Core.Path.{refl}
 use Rattle.references.proofs.Parts.{found_past, found_here, found_none}
-use borrow.Author.Rules.{rules}
 use Rattle.references.proofs.find.Goals as goal
 
 pub returns-then-to-at : goal.returns-then-to-at

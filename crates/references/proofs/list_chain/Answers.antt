@@ -2,13 +2,12 @@
 -- Assumes nothing.
 use Prim.Native.Nat.{ℕ, ◌≤◌, ◌<◌, ◌-◌}
 use mathlib.Core.List.{List}
-use mathlib.Core.Path.{◌≡◌, refl}
+use mathlib.Core.Path.{refl}
 use native.Mathlib.Omega.{arith}
 use lib.ListN.{length, length-set}
 use Rattle.model.specs.Layout.{used_at, most_records}
 use Rattle.references.proofs.Places.{used_most}
-use Rattle.references.proofs.Order.{Along, along_start, along_least, along_most, along_room, along_step, along_end}
-use borrow.Author.Rules.{rules}
+use Rattle.references.proofs.Order.{along_start, along_least, along_most, along_room, along_step, along_end}
 use Rattle.references.proofs.list_chain.Goals as goal
 
 -- what a turn knows: a record at i, and room for it

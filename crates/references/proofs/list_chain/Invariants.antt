@@ -1,12 +1,8 @@
-use Prim.Native.Nat.{ℕ, ◌≤◌, ◌<◌, ◌-◌}
-use mathlib.Core.List.{List}
-use mathlib.Core.Path.{◌≡◌, refl}
-use native.Mathlib.Omega.{arith}
-use lib.ListN.{length, length-set}
-use Rattle.model.specs.Layout.{used_at, most_records}
-use Rattle.references.proofs.Places.{used_most}
-use Rattle.references.proofs.Order.{Along, along_start, along_least, along_most, along_room, along_step, along_end}
-use borrow.Author.Rules.{rules}
+use Prim.Native.Nat.{◌-◌}
+use mathlib.Core.Path.{◌≡◌}
+use lib.ListN.{length}
+use Rattle.model.specs.Layout.{used_at}
+use Rattle.references.proofs.Order.{Along}
 use Rattle.references.proofs.list_chain.Given as goal
 
 abbrev pub invariant-loop-i : goal.invariant-loop-i

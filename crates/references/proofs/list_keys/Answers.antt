@@ -1,13 +1,12 @@
 -- `references::list_keys` meets its contract.
 -- Assumes nothing.
-use Prim.Native.Nat.{◌≤◌, ◌<◌, ◌-◌}
-use mathlib.Core.Path.{◌≡◌, refl}
+use Prim.Native.Nat.{◌<◌, ◌-◌}
+use mathlib.Core.Path.{refl}
 use native.Mathlib.Omega.{arith}
 use lib.ListN.{length, length-set, get_or}
 use Rattle.references.specs.Order.{key_at}
 use Rattle.references.proofs.Places.{used_most}
-use Rattle.references.proofs.Refs.{Ruled, ruled_more}
-use borrow.Author.Rules.{rules}
+use Rattle.references.proofs.Refs.{ruled_more}
 use Rattle.references.proofs.list_keys.Goals as goal
 
 pub loop-k-init : goal.loop-k-init

@@ -1,11 +1,8 @@
-use Prim.Native.Nat.{◌≤◌, ◌<◌, ◌-◌}
-use mathlib.Core.Path.{◌≡◌, refl}
-use native.Mathlib.Omega.{arith}
-use lib.ListN.{length, length-set, get_or}
+use Prim.Native.Nat.{◌≤◌, ◌-◌}
+use mathlib.Core.Path.{◌≡◌}
+use lib.ListN.{length, get_or}
 use Rattle.references.specs.Order.{key_at}
-use Rattle.references.proofs.Places.{used_most}
-use Rattle.references.proofs.Refs.{Ruled, ruled_more}
-use borrow.Author.Rules.{rules}
+use Rattle.references.proofs.Refs.{Ruled}
 use Rattle.references.proofs.list_keys.Given as goal
 
 abbrev pub invariant-loop-k : goal.invariant-loop-k

@@ -1,14 +1,10 @@
 -- `references::list_records` meets its contract.
 -- Assumes nothing.
-use Prim.Native.Nat.{◌≤◌, ◌+◌, ◌-◌}
-use mathlib.Core.Path.{◌≡◌, refl, ◌∙◌}
+use Prim.Native.Nat.{◌-◌}
+use mathlib.Core.Path.{◌≡◌, refl}
 use native.Mathlib.Omega.{arith}
-use lib.ListN.{length}
 use Rattle.model.specs.Layout.{most_relations}
-use Rattle.model.specs.Records.{place}
-use Rattle.references.specs.Order.{Ordered}
 use Rattle.references.proofs.Order.{order_none}
-use borrow.Author.Rules.{rules}
 use Rattle.references.proofs.list_records.Goals as goal
 
 pub loop-r-init : goal.loop-r-init

@@ -1,12 +1,9 @@
 use Prim.Native.Nat.{◌≤◌, ◌+◌, ◌-◌}
-use mathlib.Core.Path.{◌≡◌, refl, ◌∙◌}
-use native.Mathlib.Omega.{arith}
+use mathlib.Core.Path.{◌≡◌}
 use lib.ListN.{length}
 use Rattle.model.specs.Layout.{most_relations}
 use Rattle.model.specs.Records.{place}
 use Rattle.references.specs.Order.{Ordered}
-use Rattle.references.proofs.Order.{order_none}
-use borrow.Author.Rules.{rules}
 use Rattle.references.proofs.list_records.Given as goal
 
 abbrev pub invariant-loop-r : goal.invariant-loop-r

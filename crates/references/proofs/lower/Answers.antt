@@ -3,8 +3,7 @@
 use Prim.Native.Nat.{◌/◌, ◌-◌}
 use mathlib.Core.Path.{refl}
 use native.Mathlib.Omega.{arith}
-use Rattle.references.proofs.Search.{Between, between_end, between_step, cut_most}
-use borrow.Author.Rules.{rules}
+use Rattle.references.proofs.Search.{between_end, between_step, cut_most}
 use Rattle.references.proofs.lower.Goals as goal
 
 pub at_least-requires : goal.at_least-requires

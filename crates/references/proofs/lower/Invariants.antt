@@ -1,8 +1,5 @@
-use Prim.Native.Nat.{◌/◌, ◌-◌}
-use mathlib.Core.Path.{refl}
-use native.Mathlib.Omega.{arith}
-use Rattle.references.proofs.Search.{Between, between_end, between_step, cut_most}
-use borrow.Author.Rules.{rules}
+use Prim.Native.Nat.{◌-◌}
+use Rattle.references.proofs.Search.{Between}
 use Rattle.references.proofs.lower.Given as goal
 
 abbrev pub invariant-loop-rest : goal.invariant-loop-rest

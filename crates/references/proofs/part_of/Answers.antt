@@ -3,7 +3,6 @@
 use mathlib.Core.Path.{refl}
 use native.Mathlib.Omega.{arith}
 use Rattle.references.proofs.Parts.{keys_sorted, part_holds}
-use borrow.Author.Rules.{rules}
 use Rattle.references.proofs.part_of.Goals as goal
 
 pub lower-from-requires : goal.lower-from-requires

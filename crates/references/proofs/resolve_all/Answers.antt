@@ -6,10 +6,9 @@ use mathlib.Core.List.{List}
 use native.Mathlib.Omega.{arith}
 use lib.ListN.{length, length-set, get_or}
 use Rattle.model.specs.Layout.{fields, used_at, relation_at, most_records}
-use Rattle.references.specs.Resolved.{Leads, Filled}
+use Rattle.references.specs.Resolved.{Leads}
 use Rattle.references.proofs.Places.{used_most}
-use Rattle.references.proofs.Refs.{Rights, rights_none, rights_more, fill_put, fill_column}
-use borrow.Author.Rules.{rules}
+use Rattle.references.proofs.Refs.{rights_none, rights_more, fill_put, fill_column}
 use Rattle.references.proofs.resolve_all.Goals as goal
 
 -- what a turn knows of the record at position k

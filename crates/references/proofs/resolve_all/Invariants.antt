@@ -1,13 +1,8 @@
-use Prim.Native.Nat.{ℕ, ◌+◌, ◌*◌, ◌-◌, ◌≤◌, ◌<◌}
-use mathlib.Core.Path.{◌≡◌, refl}
-use mathlib.Core.List.{List}
-use native.Mathlib.Omega.{arith}
-use lib.ListN.{length, length-set, get_or}
-use Rattle.model.specs.Layout.{fields, used_at, relation_at, most_records}
-use Rattle.references.specs.Resolved.{Leads, Filled}
-use Rattle.references.proofs.Places.{used_most}
-use Rattle.references.proofs.Refs.{Rights, rights_none, rights_more, fill_put, fill_column}
-use borrow.Author.Rules.{rules}
+use Prim.Native.Nat.{ℕ, ◌-◌, ◌≤◌}
+use mathlib.Core.Path.{◌≡◌}
+use lib.ListN.{length}
+use Rattle.references.specs.Resolved.{Filled}
+use Rattle.references.proofs.Refs.{Rights}
 use Rattle.references.proofs.resolve_all.Given as goal
 
 abbrev pub invariant-loop-k : goal.invariant-loop-k

@@ -1,14 +1,11 @@
 -- `references::resolve_by` meets its contract.
 -- Assumes nothing.
-use Prim.Native.Nat.{◌+◌, ◌*◌, ◌≤◌, ◌-◌}
-use mathlib.Core.Path.{◌≡◌, refl, ◌∙◌}
+use Prim.Native.Nat.{◌+◌, ◌*◌, ◌-◌}
+use mathlib.Core.Path.{◌≡◌, refl}
 use native.Mathlib.Omega.{arith}
-use lib.ListN.{length}
 use Rattle.model.specs.Layout.{fields, most_relations}
-use Rattle.references.specs.Resolved.{Filled}
 use Rattle.references.proofs.Refs.{filled_by}
 use Rattle.references.proofs.Refs.{fill_none, fill_all}
-use borrow.Author.Rules.{rules}
 use Rattle.references.proofs.resolve_by.Goals as goal
 
 pub loop-m-init : goal.loop-m-init

@@ -1,12 +1,8 @@
 use Prim.Native.Nat.{◌+◌, ◌*◌, ◌≤◌, ◌-◌}
-use mathlib.Core.Path.{◌≡◌, refl, ◌∙◌}
-use native.Mathlib.Omega.{arith}
+use mathlib.Core.Path.{◌≡◌}
 use lib.ListN.{length}
 use Rattle.model.specs.Layout.{fields, most_relations}
 use Rattle.references.specs.Resolved.{Filled}
-use Rattle.references.proofs.Refs.{filled_by}
-use Rattle.references.proofs.Refs.{fill_none, fill_all}
-use borrow.Author.Rules.{rules}
 use Rattle.references.proofs.resolve_by.Given as goal
 
 abbrev pub invariant-loop-m : goal.invariant-loop-m

@@ -2,7 +2,6 @@
 -- Assumes nothing.
 use native.Mathlib.Omega.{arith}
 use Rattle.references.proofs.Refs.{fill_plain, leads_by, filled_by}
-use borrow.Author.Rules.{rules}
 use Rattle.references.proofs.resolve_field.Goals as goal
 
 pub returns-then-kind-lt-ABORT : goal.returns-then-kind-lt-ABORT

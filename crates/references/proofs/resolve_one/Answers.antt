@@ -1,7 +1,6 @@
 -- `references::resolve_one` meets its contract.
 -- Assumes nothing.
 use Rattle.references.proofs.Refs.{value_below, target_small, resolved_empty, resolved_absent, resolved_there}
-use borrow.Author.Rules.{rules}
 use Rattle.references.proofs.resolve_one.Goals as goal
 
 pub returns-then-value-eq0 : goal.returns-then-value-eq0

@@ -1,7 +1,6 @@
 -- `schema::block_placed` meets its contract.
 -- Assumes nothing.
 use Rattle.schema.proofs.Rules.{upto, above, block_at_place}
-use borrow.Author.Rules.{rules}
 use Rattle.schema.proofs.block_placed.Goals as goal
 
 pub returns-then-r-most : goal.returns-then-r-most

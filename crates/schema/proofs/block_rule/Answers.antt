@@ -1,7 +1,6 @@
 -- `schema::block_rule` meets its contract.
 -- Assumes nothing.
 use Rattle.schema.proofs.Rules.{block_low, block_high, block_tested}
-use borrow.Author.Rules.{rules}
 use Rattle.schema.proofs.block_rule.Goals as goal
 
 pub returns-then-count-lt1 : goal.returns-then-count-lt1

@@ -1,13 +1,10 @@
 use Prim.Native.Nat.{◌≤◌, ◌-◌}
 use mathlib.Core.Bool.{cond}
 use mathlib.Core.Path.{◌≡◌}
-use native.Mathlib.Omega.{arith}
 use lib.Dec.{leb}
 use Rattle.model.specs.Layout.{most_relations, relations}
 use Rattle.model.specs.Lists.{each}
 use Rattle.model.specs.Schemas.{block_rule, empty_block}
-use Rattle.layout.proofs.Each.{each_none, each_more}
-use borrow.Author.Rules.{rules}
 use Rattle.schema.proofs.blocks_good.Given as goal
 
 abbrev pub invariant-loop-r : goal.invariant-loop-r

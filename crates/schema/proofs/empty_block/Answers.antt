@@ -1,11 +1,9 @@
 -- `schema::empty_block` meets its contract.
 -- Assumes nothing.
-use Prim.Native.Nat.{◌≤◌, ◌-◌, ◌+◌}
+use Prim.Native.Nat.{◌-◌}
 use mathlib.Core.Path.{◌≡◌}
 use native.Mathlib.Omega.{arith}
-use lib.Dec.{eqb}
 use Rattle.model.specs.Layout.{word, block, block_words}
-use Rattle.model.specs.Lists.{each}
 use Rattle.model.specs.Schemas.{empty_block}
 use Rattle.layout.proofs.Each.{each_none}
 use Rattle.schema.proofs.Rules.{empty_more}

@@ -1,13 +1,8 @@
 use Prim.Native.Nat.{◌≤◌, ◌-◌, ◌+◌}
 use mathlib.Core.Path.{◌≡◌}
-use native.Mathlib.Omega.{arith}
 use lib.Dec.{eqb}
 use Rattle.model.specs.Layout.{word, block, block_words}
 use Rattle.model.specs.Lists.{each}
-use Rattle.model.specs.Schemas.{empty_block}
-use Rattle.layout.proofs.Each.{each_none}
-use Rattle.schema.proofs.Rules.{empty_more}
-use borrow.Author.Rules.{rules}
 use Rattle.schema.proofs.empty_block.Given as goal
 
 abbrev pub invariant-loop-j : goal.invariant-loop-j

@@ -1,7 +1,6 @@
 -- `schema::is_broken` meets its contract.
 -- Assumes nothing.
 use Rattle.schema.proofs.Rules.{broken_low, broken_high, broken_tested}
-use borrow.Author.Rules.{rules}
 use Rattle.schema.proofs.is_broken.Goals as goal
 
 pub returns-then-most-lt1 : goal.returns-then-most-lt1

@@ -2,7 +2,6 @@
 -- Assumes nothing.
 use Rattle.schema.proofs.Rules.{upto, above}
 use mathlib.Core.Path.{refl}
-use borrow.Author.Rules.{rules}
 use Rattle.schema.proofs.kind_placed.Goals as goal
 
 pub returns-then-j-count : goal.returns-then-j-count

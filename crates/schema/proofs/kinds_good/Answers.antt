@@ -1,16 +1,11 @@
 -- `schema::kinds_good` meets its contract.
 -- Assumes nothing.
 use Rattle.schema.proofs.Rules.{kind_at_place}
-use Prim.Native.Nat.{◌≤◌, ◌-◌}
-use mathlib.Core.Bool.{cond}
+use Prim.Native.Nat.{◌-◌}
 use mathlib.Core.Path.{◌≡◌}
 use native.Mathlib.Omega.{arith}
-use lib.Dec.{leb, eqb}
-use Rattle.model.specs.Layout.{fields, relations, field_count, kind_at}
-use Rattle.model.specs.Lists.{each}
-use Rattle.model.specs.Schemas.{kind_rule}
+use Rattle.model.specs.Layout.{fields, kind_at}
 use Rattle.layout.proofs.Each.{each_none, each_more}
-use borrow.Author.Rules.{rules}
 use Rattle.schema.proofs.kinds_good.Goals as goal
 
 pub loop-j-init : goal.loop-j-init

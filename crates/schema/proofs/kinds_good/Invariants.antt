@@ -1,14 +1,10 @@
-use Rattle.schema.proofs.Rules.{kind_at_place}
 use Prim.Native.Nat.{◌≤◌, ◌-◌}
 use mathlib.Core.Bool.{cond}
 use mathlib.Core.Path.{◌≡◌}
-use native.Mathlib.Omega.{arith}
 use lib.Dec.{leb, eqb}
 use Rattle.model.specs.Layout.{fields, relations, field_count, kind_at}
 use Rattle.model.specs.Lists.{each}
 use Rattle.model.specs.Schemas.{kind_rule}
-use Rattle.layout.proofs.Each.{each_none, each_more}
-use borrow.Author.Rules.{rules}
 use Rattle.schema.proofs.kinds_good.Given as goal
 
 abbrev pub invariant-loop-j : goal.invariant-loop-j

@@ -1,7 +1,6 @@
 -- `schema::mask_rule` meets its contract.
 -- Assumes nothing.
 use Rattle.schema.proofs.Rules.{power}
-use borrow.Author.Rules.{rules}
 use Rattle.schema.proofs.mask_rule.Goals as goal
 
 pub returns : goal.returns

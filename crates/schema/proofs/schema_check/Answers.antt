@@ -2,10 +2,8 @@
 -- Assumes nothing.
 use Prim.Native.Nat.{ℕ}
 use mathlib.Core.Path.{ap, sym, ◌∙◌}
-use borrow.Author.Tests.{not-true, not-false}
 use Rattle.answers.specs.Told.{told}
 use Rattle.schema.proofs.Rules.{check_length, check_broken, check_good}
-use borrow.Author.Rules.{rules}
 use Rattle.schema.proofs.schema_check.Goals as goal
 
 pub returns-then-not-schema_length : goal.returns-then-not-schema_length

@@ -1,7 +1,6 @@
 -- `shape_old::chain_step` meets its contract.
 -- Assumes nothing.
 use Rattle.shape_old.proofs.Forms.{step_is}
-use borrow.Author.Rules.{rules}
 use Rattle.shape_old.proofs.chain_step.Goals as goal
 
 pub returns : goal.returns

@@ -1,16 +1,12 @@
 -- `shape_old::fields_good` meets its contract.
 -- Assumes nothing.
-use Prim.Native.Nat.{◌≤◌, ◌-◌, ◌+◌}
-use mathlib.Core.Path.{◌≡◌, refl, sym, ◌∙◌}
+use Prim.Native.Nat.{◌-◌, ◌+◌}
+use mathlib.Core.Path.{refl, sym, ◌∙◌}
 use mathlib.Core.Bool.{true}
 use native.Mathlib.Omega.{arith}
-use borrow.Author.Tests.{not-true, not-false}
 use Rattle.model.specs.Layout.{word}
-use Rattle.model.specs.Lists.{each}
-use Rattle.model.specs.Shapes.{old_fields}
 use Rattle.layout.proofs.Each.{each_none, each_next}
-use Rattle.shape_old.proofs.Records.{placed, old_turn, old_fails, old_all}
-use borrow.Author.Rules.{rules}
+use Rattle.shape_old.proofs.Records.{old_turn, old_fails, old_all}
 use Rattle.shape_old.proofs.fields_good.Goals as goal
 
 pub loop-j-init : goal.loop-j-init

@@ -1,14 +1,10 @@
-use Prim.Native.Nat.{◌≤◌, ◌-◌, ◌+◌}
-use mathlib.Core.Path.{◌≡◌, refl, sym, ◌∙◌}
+use Prim.Native.Nat.{◌≤◌, ◌-◌}
+use mathlib.Core.Path.{◌≡◌}
 use mathlib.Core.Bool.{true}
-use native.Mathlib.Omega.{arith}
-use borrow.Author.Tests.{not-true, not-false}
 use Rattle.model.specs.Layout.{word}
 use Rattle.model.specs.Lists.{each}
 use Rattle.model.specs.Shapes.{old_fields}
-use Rattle.layout.proofs.Each.{each_none, each_next}
-use Rattle.shape_old.proofs.Records.{placed, old_turn, old_fails, old_all}
-use borrow.Author.Rules.{rules}
+use Rattle.shape_old.proofs.Records.{placed}
 use Rattle.shape_old.proofs.fields_good.Given as goal
 
 abbrev pub invariant-loop-j : goal.invariant-loop-j

@@ -1,7 +1,6 @@
 -- `shape_old::header_rules` meets its contract.
 -- Assumes nothing.
 use Rattle.shape_old.proofs.Forms.{header_is}
-use borrow.Author.Rules.{rules}
 use Rattle.shape_old.proofs.header_rules.Goals as goal
 
 pub returns : goal.returns

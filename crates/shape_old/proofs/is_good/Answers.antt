@@ -1,10 +1,8 @@
 -- `shape_old::is_good` meets its contract.
 -- Assumes nothing.
 use mathlib.Core.Path.{sym, ◌∙◌}
-use borrow.Author.Tests.{not-true, not-false}
 use Rattle.table.proofs.Links.{read_off, read_on}
 use Rattle.shape_old.proofs.Forms.{step_within}
-use borrow.Author.Rules.{rules}
 use Rattle.shape_old.proofs.is_good.Goals as goal
 
 pub returns-then-not-chain_step : goal.returns-then-not-chain_step

@@ -3,7 +3,6 @@
 use native.Mathlib.Omega.{arith}
 use Rattle.model.specs.Shapes.{next_in}
 use Rattle.layout.proofs.Words.{word_at}
-use borrow.Author.Rules.{rules}
 use Rattle.shape_old.proofs.next_at.Goals as goal
 
 pub returns : goal.returns

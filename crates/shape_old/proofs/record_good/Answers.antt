@@ -2,7 +2,6 @@
 -- Assumes nothing.
 use mathlib.Core.Path.{refl}
 use Rattle.shape_old.proofs.Forms.{record_is}
-use borrow.Author.Rules.{rules}
 use Rattle.shape_old.proofs.record_good.Goals as goal
 
 pub returns : goal.returns

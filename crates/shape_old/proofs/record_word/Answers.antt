@@ -3,7 +3,6 @@
 use native.Mathlib.Omega.{arith}
 use Rattle.model.specs.Shapes.{base_in}
 use Rattle.layout.proofs.Words.{word_past, word_at}
-use borrow.Author.Rules.{rules}
 use Rattle.shape_old.proofs.record_word.Goals as goal
 
 pub returns-then-i-gt-LARGEST_INDEX : goal.returns-then-i-gt-LARGEST_INDEX

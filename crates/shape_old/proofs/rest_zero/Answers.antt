@@ -1,17 +1,8 @@
 -- `shape_old::rest_zero` meets its contract.
 -- Assumes nothing.
 use Prim.Native.Nat.{◌-◌}
-use mathlib.Core.Path.{◌≡◌}
-use mathlib.Core.Bool.{◌&&◌}
-use lib.Dec.{eqb}
-use lib.ListN.{length, drop}
-use Rattle.model.specs.Lists.{all_of}
-use Rattle.model.specs.WellFormed.{rest_zero}
-use Rattle.model.specs.Layout.{fields}
-use Rattle.model.specs.Shapes.{old_fields, turned_table}
 use Rattle.table_rules.proofs.Rules.{rest_next, rest_last}
 use Rattle.shape_old.proofs.Forms.{rest_begins}
-use borrow.Author.Rules.{rules}
 use Rattle.shape_old.proofs.rest_zero.Goals as goal
 
 pub loop-k-init : goal.loop-k-init

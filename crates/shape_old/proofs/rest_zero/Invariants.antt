@@ -7,9 +7,6 @@ use Rattle.model.specs.Lists.{all_of}
 use Rattle.model.specs.WellFormed.{rest_zero}
 use Rattle.model.specs.Layout.{fields}
 use Rattle.model.specs.Shapes.{old_fields, turned_table}
-use Rattle.table_rules.proofs.Rules.{rest_next, rest_last}
-use Rattle.shape_old.proofs.Forms.{rest_begins}
-use borrow.Author.Rules.{rules}
 use Rattle.shape_old.proofs.rest_zero.Given as goal
 
 abbrev pub invariant-loop-k : goal.invariant-loop-k

@@ -2,12 +2,10 @@
 -- Assumes nothing.
 use Prim.Native.Nat.{◌+◌, ◌≤◌}
 use native.Mathlib.Omega.{arith}
-use borrow.Author.Tests.{not-true, not-false}
 use Rattle.model.specs.Layout.{block, block_words, schema_words}
 use Rattle.layout.proofs.Stride.{block_in_lem}
 use Rattle.layout.proofs.Words.{part_at}
 use Rattle.shape_old.proofs.Records.{old_low, old_high, old_named, old_flag, old_fields_lem}
-use borrow.Author.Rules.{rules}
 use Rattle.shape_old.proofs.row_good.Goals as goal
 
 pub returns-then-relation-lt1 : goal.returns-then-relation-lt1

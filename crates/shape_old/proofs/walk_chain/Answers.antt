@@ -1,15 +1,8 @@
 -- `shape_old::walk_chain` meets its contract. Each turn reads a record, and what is left of the walk ends as the whole does.
 -- Assumes nothing.
-use Prim.Native.Nat.{◌+◌}
-use mathlib.Core.Path.{◌≡◌}
 use native.Mathlib.Omega.{arith}
-use borrow.Author.Tests.{not-true, not-false}
-use Rattle.model.specs.Layout.{fields, used_at}
-use Rattle.model.specs.Records.{label_span}
-use Rattle.model.specs.Shapes.{old_fields, turned_table}
-use Rattle.table.proofs.Links.{Ahead, ahead_fuel}
+use Rattle.table.proofs.Links.{ahead_fuel}
 use Rattle.shape_old.proofs.Forms.{walk_begins, walk_breaks, walk_goes, walk_ends}
-use borrow.Author.Rules.{rules}
 use Rattle.shape_old.proofs.walk_chain.Goals as goal
 
 pub loop-left-init : goal.loop-left-init

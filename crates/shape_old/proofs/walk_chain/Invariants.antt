@@ -1,13 +1,9 @@
 use Prim.Native.Nat.{◌+◌}
 use mathlib.Core.Path.{◌≡◌}
-use native.Mathlib.Omega.{arith}
-use borrow.Author.Tests.{not-true, not-false}
 use Rattle.model.specs.Layout.{fields, used_at}
 use Rattle.model.specs.Records.{label_span}
 use Rattle.model.specs.Shapes.{old_fields, turned_table}
-use Rattle.table.proofs.Links.{Ahead, ahead_fuel}
-use Rattle.shape_old.proofs.Forms.{walk_begins, walk_breaks, walk_goes, walk_ends}
-use borrow.Author.Rules.{rules}
+use Rattle.table.proofs.Links.{Ahead}
 use Rattle.shape_old.proofs.walk_chain.Given as goal
 
 abbrev pub invariant-loop-left : goal.invariant-loop-left

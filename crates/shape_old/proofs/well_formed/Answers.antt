@@ -1,8 +1,6 @@
 -- `shape_old::well_formed` meets its contract.
 -- Assumes nothing.
 use mathlib.Core.Path.{sym, ◌∙◌}
-use borrow.Author.Tests.{not-true, not-false}
-use borrow.Author.Rules.{rules}
 use Rattle.table_rules.proofs.Rules.{sound_relations, formed_header, formed_tested}
 use Rattle.shape_laws.proofs.Old.{old_firsts, old_above}
 use Rattle.shape_old.proofs.Forms.{Head, header_says}

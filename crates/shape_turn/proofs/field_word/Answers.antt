@@ -1,7 +1,6 @@
 -- `shape_turn::field_word` meets its contract.
 -- Assumes nothing.
 use Rattle.shape_turn.proofs.Pasted.{field_is, field_none}
-use borrow.Author.Rules.{rules}
 use Rattle.shape_turn.proofs.field_word.Goals as goal
 
 pub returns-then-j-v : goal.returns-then-j-v

@@ -1,7 +1,6 @@
 -- `shape_turn::turn_block` meets its contract.
 -- Assumes nothing.
 use Rattle.shape_turn.proofs.Pasted.{block_made}
-use borrow.Author.Rules.{rules}
 use Rattle.shape_turn.proofs.turn_block.Goals as goal
 
 pub returns : goal.returns

@@ -1,13 +1,12 @@
 -- `shape_turn::turn_fields` meets its contract.
 -- Assumes nothing.
-use Prim.Native.Nat.{◌≤◌, ◌-◌}
-use mathlib.Core.Path.{◌≡◌, refl}
+use Prim.Native.Nat.{◌-◌}
+use mathlib.Core.Path.{refl}
 use native.Mathlib.Omega.{arith}
-use lib.ListN.{length, length-set}
-use lib.Seq.{paste, paste-zero}
+use lib.ListN.{length-set}
+use lib.Seq.{paste-zero}
 use Rattle.shape_turn.specs.Rows.{fields_after}
 use Rattle.shape_turn.proofs.Pasted.{field_turn, paste_whole}
-use borrow.Author.Rules.{rules}
 use Rattle.shape_turn.proofs.turn_fields.Goals as goal
 
 pub loop-j-init : goal.loop-j-init

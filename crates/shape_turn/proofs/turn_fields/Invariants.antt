@@ -1,11 +1,8 @@
 use Prim.Native.Nat.{◌≤◌, ◌-◌}
-use mathlib.Core.Path.{◌≡◌, refl}
-use native.Mathlib.Omega.{arith}
-use lib.ListN.{length, length-set}
-use lib.Seq.{paste, paste-zero}
+use mathlib.Core.Path.{◌≡◌}
+use lib.ListN.{length}
+use lib.Seq.{paste}
 use Rattle.shape_turn.specs.Rows.{fields_after}
-use Rattle.shape_turn.proofs.Pasted.{field_turn, paste_whole}
-use borrow.Author.Rules.{rules}
 use Rattle.shape_turn.proofs.turn_fields.Given as goal
 
 abbrev pub invariant-loop-j : goal.invariant-loop-j

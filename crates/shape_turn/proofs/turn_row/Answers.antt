@@ -1,7 +1,6 @@
 -- `shape_turn::turn_row` meets its contract.
 -- Assumes nothing.
 use Rattle.shape_turn.proofs.Pasted.{row_made}
-use borrow.Author.Rules.{rules}
 use Rattle.shape_turn.proofs.turn_row.Goals as goal
 
 pub returns : goal.returns

@@ -1,15 +1,13 @@
 -- `shape_turn::turn_schema` meets its contract.
 -- Assumes nothing.
 use Rattle.shape_turn.proofs.Written.{part_long}
-use Prim.Native.Nat.{◌≤◌, ◌+◌, ◌*◌, ◌-◌}
-use mathlib.Core.Path.{◌≡◌, refl, sym, ◌∙◌}
+use Prim.Native.Nat.{◌+◌, ◌-◌}
+use mathlib.Core.Path.{refl, sym, ◌∙◌}
 use native.Mathlib.Omega.{arith}
 use native.Mathlib.Nat.{mul-suc, mul-zero}
 use native.Mathlib.Numerals.{add-one}
-use lib.ListN.{length}
 use Rattle.model.specs.Layout.{most_relations}
-use Rattle.shape_turn.proofs.Written.{room, Blocks, blocks_none, blocks_more, blocks_all}
-use borrow.Author.Rules.{rules}
+use Rattle.shape_turn.proofs.Written.{room, blocks_none, blocks_more, blocks_all}
 use Rattle.shape_turn.proofs.turn_schema.Goals as goal
 
 pub loop-r-init : goal.loop-r-init

@@ -1,13 +1,8 @@
-use Rattle.shape_turn.proofs.Written.{part_long}
 use Prim.Native.Nat.{◌≤◌, ◌+◌, ◌*◌, ◌-◌}
-use mathlib.Core.Path.{◌≡◌, refl, sym, ◌∙◌}
-use native.Mathlib.Omega.{arith}
-use native.Mathlib.Nat.{mul-suc, mul-zero}
-use native.Mathlib.Numerals.{add-one}
+use mathlib.Core.Path.{◌≡◌}
 use lib.ListN.{length}
 use Rattle.model.specs.Layout.{most_relations}
-use Rattle.shape_turn.proofs.Written.{room, Blocks, blocks_none, blocks_more, blocks_all}
-use borrow.Author.Rules.{rules}
+use Rattle.shape_turn.proofs.Written.{Blocks}
 use Rattle.shape_turn.proofs.turn_schema.Given as goal
 
 abbrev pub invariant-loop-r : goal.invariant-loop-r

@@ -1,14 +1,12 @@
 -- `shape_turn::turn_table` meets its contract.
 -- Assumes nothing.
-use Prim.Native.Nat.{◌≤◌, ◌+◌, ◌*◌, ◌-◌}
-use mathlib.Core.Path.{◌≡◌, refl, sym, ◌∙◌}
+use Prim.Native.Nat.{◌+◌, ◌*◌, ◌-◌}
+use mathlib.Core.Path.{refl, sym, ◌∙◌}
 use native.Mathlib.Omega.{arith}
 use native.Mathlib.Nat.{mul-suc, mul-zero}
 use native.Mathlib.Numerals.{add-one}
-use lib.ListN.{length}
 use Rattle.model.specs.Layout.{header_words, head_words}
-use Rattle.shape_turn.proofs.Written.{part_long, room, Rows, rows_none, rows_more, rows_all}
-use borrow.Author.Rules.{rules}
+use Rattle.shape_turn.proofs.Written.{part_long, room, rows_none, rows_more, rows_all}
 use Rattle.shape_turn.proofs.turn_table.Goals as goal
 
 pub loop-i-init : goal.loop-i-init

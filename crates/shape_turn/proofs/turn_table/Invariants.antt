@@ -1,12 +1,8 @@
 use Prim.Native.Nat.{◌≤◌, ◌+◌, ◌*◌, ◌-◌}
-use mathlib.Core.Path.{◌≡◌, refl, sym, ◌∙◌}
-use native.Mathlib.Omega.{arith}
-use native.Mathlib.Nat.{mul-suc, mul-zero}
-use native.Mathlib.Numerals.{add-one}
+use mathlib.Core.Path.{◌≡◌}
 use lib.ListN.{length}
 use Rattle.model.specs.Layout.{header_words, head_words}
-use Rattle.shape_turn.proofs.Written.{part_long, room, Rows, rows_none, rows_more, rows_all}
-use borrow.Author.Rules.{rules}
+use Rattle.shape_turn.proofs.Written.{Rows}
 use Rattle.shape_turn.proofs.turn_table.Given as goal
 
 abbrev pub invariant-loop-i : goal.invariant-loop-i

@@ -2,12 +2,10 @@
 -- Assumes nothing.
 use Prim.Native.Nat.{ℕ}
 use mathlib.Core.Path.{ap, sym, ◌∙◌}
-use borrow.Author.Tests.{not-true, not-false}
 use Rattle.answers.specs.Told.{told}
 use Rattle.table_rules.proofs.Rules.{sound_relations}
 use Rattle.shape_laws.proofs.Lengths.{lengths}
 use Rattle.shapes.proofs.Answers.{narrow_0, narrow_1, narrow_2, narrow_3, narrow_14}
-use borrow.Author.Rules.{rules}
 use Rattle.shapes.proofs.judge_narrowing.Goals as goal
 
 pub returns-then-not-lengths : goal.returns-then-not-lengths

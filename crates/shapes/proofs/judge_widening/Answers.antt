@@ -3,7 +3,6 @@
 use Prim.Native.Nat.{ℕ}
 use mathlib.Core.Path.{ap, sym, ◌∙◌}
 use native.Mathlib.Omega.{arith}
-use borrow.Author.Tests.{not-true, not-false}
 use Rattle.answers.specs.Told.{told}
 use Rattle.shape_laws.proofs.Lengths.{lengths}
 use Rattle.shapes.proofs.Answers.{schema_sizes, widen_0, widen_1, widen_2, widen_3}

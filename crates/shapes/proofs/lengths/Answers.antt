@@ -1,7 +1,6 @@
 -- `shapes::lengths` meets its contract.
 -- Assumes nothing.
 use Rattle.shapes.proofs.Answers.{lengths_are}
-use borrow.Author.Rules.{rules}
 use Rattle.shapes.proofs.lengths.Goals as goal
 
 pub returns : goal.returns

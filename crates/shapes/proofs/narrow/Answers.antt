@@ -2,7 +2,6 @@
 -- Assumes nothing.
 use native.Mathlib.Omega.{arith}
 use Rattle.shapes.proofs.Answers.{schema_sizes, narrow_room, narrow_fits, narrow_refused, narrow_done}
-use borrow.Author.Rules.{rules}
 use Rattle.shapes.proofs.narrow.Goals as goal
 
 pub returns-then-number-ne0 : goal.returns-then-number-ne0

@@ -1,14 +1,9 @@
 -- `shapes::too_wide` meets its contract.
 -- Assumes nothing.
-use Prim.Native.Nat.{◌≤◌, ◌-◌}
-use mathlib.Core.Path.{◌≡◌}
+use Prim.Native.Nat.{◌-◌}
 use native.Mathlib.Omega.{arith}
-use lib.Dec.{ltb}
-use Rattle.model.specs.Layout.{relations, field_count}
-use Rattle.model.specs.Lists.{any}
-use Rattle.model.specs.Shapes.{old_fields}
+use Rattle.model.specs.Layout.{field_count}
 use Rattle.shapes.proofs.Answers.{wide_none, wide_more, wide_all}
-use borrow.Author.Rules.{rules}
 use Rattle.shapes.proofs.too_wide.Goals as goal
 
 pub loop-r-init : goal.loop-r-init

@@ -1,12 +1,9 @@
 use Prim.Native.Nat.{◌≤◌, ◌-◌}
 use mathlib.Core.Path.{◌≡◌}
-use native.Mathlib.Omega.{arith}
 use lib.Dec.{ltb}
 use Rattle.model.specs.Layout.{relations, field_count}
 use Rattle.model.specs.Lists.{any}
 use Rattle.model.specs.Shapes.{old_fields}
-use Rattle.shapes.proofs.Answers.{wide_none, wide_more, wide_all}
-use borrow.Author.Rules.{rules}
 use Rattle.shapes.proofs.too_wide.Given as goal
 
 abbrev pub invariant-loop-r : goal.invariant-loop-r

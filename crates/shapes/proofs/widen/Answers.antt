@@ -2,7 +2,6 @@
 -- Assumes nothing.
 use native.Mathlib.Omega.{arith}
 use Rattle.shapes.proofs.Answers.{schema_sizes, widen_room, widen_fits, widen_refused, widen_done}
-use borrow.Author.Rules.{rules}
 use Rattle.shapes.proofs.widen.Goals as goal
 
 pub returns-then-number-ne0 : goal.returns-then-number-ne0

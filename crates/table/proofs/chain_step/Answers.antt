@@ -1,7 +1,6 @@
 -- `table::chain_step` meets its contract.
 -- Assumes nothing.
 use Rattle.model.specs.WellFormed.{chain_step}
-use borrow.Author.Rules.{rules}
 use Rattle.table.proofs.chain_step.Goals as goal
 
 pub returns : goal.returns

@@ -2,10 +2,8 @@
 -- Assumes nothing.
 use mathlib.Core.Path.{sym, ◌∙◌}
 use native.Mathlib.Omega.{arith}
-use borrow.Author.Tests.{not-true, not-false}
 use Rattle.table.proofs.Count.{step_says}
 use Rattle.table.proofs.Links.{read_off, read_on}
-use borrow.Author.Rules.{rules}
 use Rattle.table.proofs.is_good.Goals as goal
 
 pub returns-then-not-chain_step : goal.returns-then-not-chain_step

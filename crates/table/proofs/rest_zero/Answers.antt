@@ -1,14 +1,7 @@
 -- `table::rest_zero` meets its contract.
 -- Assumes nothing.
 use Prim.Native.Nat.{◌-◌}
-use mathlib.Core.Path.{◌≡◌}
-use mathlib.Core.Bool.{◌&&◌}
-use lib.Dec.{eqb}
-use lib.ListN.{length, drop}
-use Rattle.model.specs.Lists.{all_of}
-use Rattle.model.specs.WellFormed.{rest_zero}
 use Rattle.table_rules.proofs.Rules.{rest_first, rest_next, rest_last}
-use borrow.Author.Rules.{rules}
 use Rattle.table.proofs.rest_zero.Goals as goal
 
 pub loop-k-init : goal.loop-k-init

@@ -5,8 +5,6 @@ use lib.Dec.{eqb}
 use lib.ListN.{length, drop}
 use Rattle.model.specs.Lists.{all_of}
 use Rattle.model.specs.WellFormed.{rest_zero}
-use Rattle.table_rules.proofs.Rules.{rest_first, rest_next, rest_last}
-use borrow.Author.Rules.{rules}
 use Rattle.table.proofs.rest_zero.Given as goal
 
 abbrev pub invariant-loop-k : goal.invariant-loop-k

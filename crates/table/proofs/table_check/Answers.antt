@@ -3,8 +3,6 @@
 use Prim.Native.Nat.{ℕ}
 use mathlib.Core.Path.{ap, ap₂, sym, ◌∙◌}
 use mathlib.Core.Bool.{◌&&◌}
-use borrow.Author.Tests.{not-true, not-false}
-use borrow.Author.Rules.{rules}
 use Rattle.answers.specs.Told.{told}
 use Rattle.table_rules.proofs.Rules.{table_length_lem, table_broken, table_ill, table_good, lengths}
 use Rattle.table.proofs.table_check.Goals as goal

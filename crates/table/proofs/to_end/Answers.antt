@@ -2,7 +2,6 @@
 -- Assumes nothing.
 use mathlib.Core.Path.{sym, ap}
 use Rattle.table.specs.Chains.{walked_of}
-use borrow.Author.Rules.{rules}
 use Rattle.table.proofs.to_end.Goals as goal
 
 pub returns-in-End : goal.returns-in-End

@@ -3,7 +3,6 @@
 use mathlib.Core.Path.{◌∙◌, ap}
 use Rattle.table.specs.Chains.{walked_of}
 use Rattle.table.proofs.Links.{chain_walked}
-use borrow.Author.Rules.{rules}
 use Rattle.table.proofs.walk_chain.Goals as goal
 
 pub returns : goal.returns

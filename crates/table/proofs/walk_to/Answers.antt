@@ -1,12 +1,7 @@
 -- `table::walk_to` meets its contract. Each turn reads a record, and what is left of the walk ends as the whole does.
 -- Assumes nothing.
-use Prim.Native.Nat.{◌+◌}
-use mathlib.Core.Path.{◌≡◌}
 use native.Mathlib.Omega.{arith}
-use borrow.Author.Tests.{not-true, not-false}
-use Rattle.model.specs.Layout.{used_at}
-use Rattle.table.proofs.Links.{Ahead, ahead_first, ahead_fuel, ahead_broken, ahead_at, ahead_next, ahead_end}
-use borrow.Author.Rules.{rules}
+use Rattle.table.proofs.Links.{ahead_first, ahead_fuel, ahead_broken, ahead_at, ahead_next, ahead_end}
 use Rattle.table.proofs.walk_to.Goals as goal
 
 pub loop-left-init : goal.loop-left-init

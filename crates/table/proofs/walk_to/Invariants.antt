@@ -1,10 +1,7 @@
 use Prim.Native.Nat.{◌+◌}
 use mathlib.Core.Path.{◌≡◌}
-use native.Mathlib.Omega.{arith}
-use borrow.Author.Tests.{not-true, not-false}
 use Rattle.model.specs.Layout.{used_at}
-use Rattle.table.proofs.Links.{Ahead, ahead_first, ahead_fuel, ahead_broken, ahead_at, ahead_next, ahead_end}
-use borrow.Author.Rules.{rules}
+use Rattle.table.proofs.Links.{Ahead}
 use Rattle.table.proofs.walk_to.Given as goal
 
 abbrev pub invariant-loop-left : goal.invariant-loop-left

@@ -2,8 +2,6 @@
 -- Assumes nothing.
 use mathlib.Core.Path.{sym, ◌∙◌}
 use native.Mathlib.Omega.{arith}
-use borrow.Author.Tests.{not-true, not-false}
-use borrow.Author.Rules.{rules}
 use Rattle.layout.proofs.Stride.{sized, schema_sized}
 use Rattle.table_rules.proofs.Rules.{Header, header_says, sound_relations, formed_header, formed_tested}
 use Rattle.table.proofs.well_formed.Goals as goal

@@ -1,16 +1,12 @@
 -- `table_rules::empty_above` meets its contract.
 -- Assumes nothing.
-use Prim.Native.Nat.{◌≤◌, ◌-◌}
+use Prim.Native.Nat.{◌-◌}
 use mathlib.Core.Path.{◌≡◌}
-use mathlib.Core.Bool.{◌||◌}
 use native.Mathlib.Omega.{arith}
-use lib.Dec.{leb, eqb}
-use Rattle.model.specs.Layout.{most_relations, relations, first_at}
-use Rattle.model.specs.Lists.{each}
+use Rattle.model.specs.Layout.{most_relations, first_at}
 use Rattle.model.specs.WellFormed.{empty_above}
 use Rattle.layout.proofs.Each.{each_none}
 use Rattle.table_rules.proofs.Rules.{above_more}
-use borrow.Author.Rules.{rules}
 use Rattle.table_rules.proofs.empty_above.Goals as goal
 
 pub loop-r-init : goal.loop-r-init

@@ -1,14 +1,9 @@
 use Prim.Native.Nat.{◌≤◌, ◌-◌}
 use mathlib.Core.Path.{◌≡◌}
 use mathlib.Core.Bool.{◌||◌}
-use native.Mathlib.Omega.{arith}
 use lib.Dec.{leb, eqb}
 use Rattle.model.specs.Layout.{most_relations, relations, first_at}
 use Rattle.model.specs.Lists.{each}
-use Rattle.model.specs.WellFormed.{empty_above}
-use Rattle.layout.proofs.Each.{each_none}
-use Rattle.table_rules.proofs.Rules.{above_more}
-use borrow.Author.Rules.{rules}
 use Rattle.table_rules.proofs.empty_above.Given as goal
 
 abbrev pub invariant-loop-r : goal.invariant-loop-r

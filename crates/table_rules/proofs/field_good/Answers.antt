@@ -1,8 +1,6 @@
 -- `table_rules::field_good` meets its contract.
 -- Assumes nothing.
-use borrow.Author.Tests.{not-true, not-false}
 use Rattle.table_rules.proofs.Rows.{field_none, field_bad, field_plain, field_empty, field_refers}
-use borrow.Author.Rules.{rules}
 use Rattle.table_rules.proofs.field_good.Goals as goal
 
 pub returns-then-stamp-eq0 : goal.returns-then-stamp-eq0

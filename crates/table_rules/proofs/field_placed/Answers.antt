@@ -1,7 +1,6 @@
 -- `table_rules::field_placed` meets its contract.
 -- Assumes nothing.
 use Rattle.table_rules.proofs.Rows.{placed_in, placed_above}
-use borrow.Author.Rules.{rules}
 use Rattle.table_rules.proofs.field_placed.Goals as goal
 
 pub returns-then-j-count : goal.returns-then-j-count

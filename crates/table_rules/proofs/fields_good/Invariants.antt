@@ -1,14 +1,9 @@
 use Prim.Native.Nat.{◌≤◌, ◌-◌, ◌+◌, ◌/◌}
-use mathlib.Core.Path.{◌≡◌, refl, sym, ◌∙◌}
+use mathlib.Core.Path.{◌≡◌}
 use mathlib.Core.Bool.{true}
-use native.Mathlib.Omega.{arith}
-use borrow.Author.Tests.{not-true, not-false}
 use Rattle.model.specs.Layout.{fields, head_words, word}
 use Rattle.model.specs.Lists.{each}
-use Rattle.layout.proofs.Each.{each_none, each_next, each_fail}
-use Rattle.table_rules.specs.Rows.{field_placed, fields_good_to, fields_good}
-use Rattle.table_rules.proofs.Rows.{field_turn}
-use borrow.Author.Rules.{rules}
+use Rattle.table_rules.specs.Rows.{field_placed}
 use Rattle.table_rules.proofs.fields_good.Given as goal
 
 abbrev pub invariant-loop-j : goal.invariant-loop-j

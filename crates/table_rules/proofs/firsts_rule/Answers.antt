@@ -1,15 +1,12 @@
 -- `table_rules::firsts_rule` meets its contract.
 -- Assumes nothing.
-use Prim.Native.Nat.{◌≤◌, ◌-◌}
+use Prim.Native.Nat.{◌-◌}
 use mathlib.Core.Path.{◌≡◌}
 use native.Mathlib.Omega.{arith}
-use lib.Dec.{leb}
-use Rattle.model.specs.Layout.{most_relations, used_at, first_at}
-use Rattle.model.specs.Lists.{each}
+use Rattle.model.specs.Layout.{most_relations, first_at}
 use Rattle.model.specs.WellFormed.{firsts_rule}
 use Rattle.layout.proofs.Each.{each_none}
 use Rattle.table_rules.proofs.Rules.{firsts_more}
-use borrow.Author.Rules.{rules}
 use Rattle.table_rules.proofs.firsts_rule.Goals as goal
 
 pub loop-r-init : goal.loop-r-init

@@ -1,7 +1,6 @@
 -- `table_rules::header_rules` meets its contract.
 -- Assumes nothing.
 use Rattle.table_rules.proofs.Rules.{header_tested}
-use borrow.Author.Rules.{rules}
 use Rattle.table_rules.proofs.header_rules.Goals as goal
 
 pub returns : goal.returns

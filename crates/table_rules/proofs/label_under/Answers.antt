@@ -1,7 +1,6 @@
 -- `table_rules::label_under` meets its contract.
 -- Assumes nothing.
 use Rattle.table_rules.proofs.Rows.{label_under_lem}
-use borrow.Author.Rules.{rules}
 use Rattle.table_rules.proofs.label_under.Goals as goal
 
 pub returns : goal.returns

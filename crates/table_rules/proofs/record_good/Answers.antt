@@ -4,7 +4,6 @@ use native.Mathlib.Omega.{arith}
 use Rattle.layout.proofs.Stride.{Inside, inside}
 use Rattle.layout.proofs.Words.{part_at}
 use Rattle.table_rules.proofs.Rows.{record_row}
-use borrow.Author.Rules.{rules}
 use Rattle.table_rules.proofs.record_good.Goals as goal
 
 pub base-a-requires : goal.base-a-requires

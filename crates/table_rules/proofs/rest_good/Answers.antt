@@ -1,16 +1,13 @@
 -- `table_rules::rest_good` meets its contract.
 -- Assumes nothing.
-use Prim.Native.Nat.{◌≤◌, ◌-◌, ◌+◌}
+use Prim.Native.Nat.{◌-◌, ◌+◌}
 use mathlib.Core.Path.{◌≡◌, refl, sym, ◌∙◌}
 use mathlib.Core.Bool.{true}
 use native.Mathlib.Omega.{arith}
-use borrow.Author.Tests.{not-true, not-false}
-use Rattle.model.specs.Layout.{fields, head_words, word}
-use Rattle.model.specs.Lists.{each}
+use Rattle.model.specs.Layout.{fields, word}
 use Rattle.layout.proofs.Each.{each_next, each_fail}
 use Rattle.table_rules.specs.Rows.{field_placed, fields_good_to, fields_good}
 use Rattle.table_rules.proofs.Rows.{field_turn}
-use borrow.Author.Rules.{rules}
 use Rattle.table_rules.proofs.rest_good.Goals as goal
 
 pub loop-j-init : goal.loop-j-init

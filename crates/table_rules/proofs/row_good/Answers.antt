@@ -4,12 +4,10 @@ use Prim.Native.Nat.{◌+◌, ◌≤◌}
 use mathlib.Core.Path.{sym, ◌∙◌}
 use native.Mathlib.Omega.{arith}
 use lib.ListN.{get_or}
-use borrow.Author.Tests.{not-true, not-false}
 use Rattle.model.specs.Layout.{block, word, block_words, schema_words}
 use Rattle.layout.proofs.Stride.{block_in_lem}
 use Rattle.layout.proofs.Words.{part_at}
 use Rattle.table_rules.proofs.Rows.{row_low, row_high, row_named, row_flag, row_fields}
-use borrow.Author.Rules.{rules}
 use Rattle.table_rules.proofs.row_good.Goals as goal
 
 pub returns-then-relation-lt1 : goal.returns-then-relation-lt1

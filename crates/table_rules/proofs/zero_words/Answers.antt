@@ -1,14 +1,11 @@
 -- `table_rules::zero_words` meets its contract.
 -- Assumes nothing.
-use Prim.Native.Nat.{◌≤◌, ◌-◌, ◌+◌}
+use Prim.Native.Nat.{◌-◌}
 use mathlib.Core.Path.{◌≡◌}
 use native.Mathlib.Omega.{arith}
-use lib.Dec.{eqb}
-use Rattle.model.specs.Layout.{most_relations, first_words, zero_words, word}
-use Rattle.model.specs.Lists.{each}
+use Rattle.model.specs.Layout.{zero_words, word}
 use Rattle.layout.proofs.Each.{each_none}
 use Rattle.table_rules.proofs.Rules.{zeros_more}
-use borrow.Author.Rules.{rules}
 use Rattle.table_rules.proofs.zero_words.Goals as goal
 
 pub loop-j-init : goal.loop-j-init

@@ -1,12 +1,8 @@
 use Prim.Native.Nat.{◌≤◌, ◌-◌, ◌+◌}
 use mathlib.Core.Path.{◌≡◌}
-use native.Mathlib.Omega.{arith}
 use lib.Dec.{eqb}
 use Rattle.model.specs.Layout.{most_relations, first_words, zero_words, word}
 use Rattle.model.specs.Lists.{each}
-use Rattle.layout.proofs.Each.{each_none}
-use Rattle.table_rules.proofs.Rules.{zeros_more}
-use borrow.Author.Rules.{rules}
 use Rattle.table_rules.proofs.zero_words.Given as goal
 
 abbrev pub invariant-loop-j : goal.invariant-loop-j

@@ -2,10 +2,8 @@
 -- Assumes nothing.
 use Prim.Native.Nat.{ℕ}
 use mathlib.Core.Path.{ap}
-use borrow.Author.Tests.{not-true, not-false}
 use Rattle.answers.specs.Told.{told}
 use Rattle.table_rules.proofs.Rules.{start_length, start_replica, start_done}
-use borrow.Author.Rules.{rules}
 use Rattle.table_start.proofs.start.Goals as goal
 
 pub returns-then-not-table_length : goal.returns-then-not-table_length

@@ -3,12 +3,10 @@
 use Prim.Native.Nat.{◌+◌}
 use mathlib.Core.Path.{◌≡◌, refl, sym, ◌∙◌}
 use native.Mathlib.Omega.{arith}
-use borrow.Author.Tests.{not-true, not-false}
 use Rattle.model.specs.Layout.{base, head_words}
 use Rattle.layout.proofs.Stride.{Inside, index_inside}
 use Rattle.layout.proofs.Words.{part_at}
 use Rattle.table_rules.proofs.Rules.{values_length, values_index, values_given, first_length, first_index_lem, first_given}
-use borrow.Author.Rules.{rules}
 use Rattle.table_start.proofs.values.Goals as goal
 
 pub returns-then-not-table_length : goal.returns-then-not-table_length

@@ -1,11 +1,10 @@
 -- `table_start::zero` meets its contract.
 -- Assumes nothing.
-use Prim.Native.Nat.{ℕ, ◌≤◌, ◌<◌, ◌-◌}
-use mathlib.Core.Path.{◌≡◌, refl}
+use Prim.Native.Nat.{◌-◌}
+use mathlib.Core.Path.{refl}
 use native.Mathlib.Omega.{arith}
-use lib.ListN.{length, get_or, length-set}
+use lib.ListN.{length-set}
 use Rattle.table_rules.proofs.Rules.{zeros_next, zeros_all}
-use borrow.Author.Rules.{rules}
 use Rattle.table_start.proofs.zero.Goals as goal
 
 pub loop-k-init : goal.loop-k-init
