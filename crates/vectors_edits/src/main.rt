@@ -72,10 +72,8 @@ fn run_all<P: Print>(
     let told = stream::number(s, at);
     let count = stream::least(told.value, s.len());
     let mut c = stream::begin(told.at);
-    let mut i = 0;
-    while i < count {
+    for i in 0..count {
         c = run_item(rt, s, c, i, rows, schema, own, third, values, counts)?;
-        i += 1;
     }
     tally::put_sums(counts, count as u64, c.words, c.sum);
     Ok(())
