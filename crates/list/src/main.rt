@@ -1,11 +1,12 @@
 // The list program: a schema and a table on standard input, the list of the shown records on standard output.
 #![tactic(auto)]
 
-ghost use Rattle.std.specs.Prelude.{◌≡◌, true, IfOk, ◌+◌, ◌≤◌, length, take, drop};
+ghost use Rattle.std.specs.Prelude.{◌≡◌, true, IfOk, IfSome, OnOk, ◌+◌, ◌<◌, ◌≤◌, length, take, drop};
 ghost use Rattle.model.specs.Layout.{schema_words, header_words, capacity_of};
 ghost use Rattle.model.specs.Calls.{marks_length};
-ghost use Rattle.list.specs.Program.{most_listed, most_words, most_text, is_whole, answer_text, list_text};
+ghost use Rattle.list.specs.Program.{most_listed, most_words, most_bytes, most_text, is_whole, answer_text, list_text};
 ghost use Rattle.list_text.specs.Placed.{Placed};
+ghost use Rattle.std.specs.Io.KnownBytes.{Appends, Consumes, IsAtEnd};
 
 use std::io;
 use std::io::{Read, Write};
@@ -46,7 +47,8 @@ fn run<R: Input + Print>(
     run_read(&mut reader, &mut writer, input, words, marks, out)
 }
 
-// Reads the whole input and prints its text.
+// Reads the whole input and prints its text. Of a reader whose bytes are known all bytes count, however many they are: a longer
+// input than the buffer holds is told apart from each that is whole.
 fn run_read<R: Read, W: Write>(
     reader: &mut R,
     writer: &mut W,
@@ -56,21 +58,25 @@ fn run_read<R: Read, W: Write>(
     out: &mut [u8],
 ) -> io::Result<()>
     requires { (most_words ≤ length words.old) × (most_listed ≤ length marks.old) × (most_text ≤ length out.old) }
+    ensures { most_bytes < length input.old → OnOk result (IfSome (R.remaining reader.old) (λ b. Appends (W.contents writer.old) (W.contents writer.new) (list_text b))) }
 {
     let n = read_full(reader, input)?;
     let k = respond(&input[0..n], words, marks, out);
     writer.write_all(&out[0..k])
 }
 
-// Reads until the buffer is full or the input ends; how many bytes stand at the buffer's beginning.
+// Reads until the buffer is full or the input ends; how many bytes stand at the buffer's beginning. Of a reader whose bytes are
+// known these are the first, and all of them where the buffer has room left.
 fn read_full<R: Read>(reader: &mut R, buf: &mut [u8]) -> io::Result<usize>
-    ensures { IfOk result (λ n. n ≤ length buf.new) }
+    ensures within { IfOk result (λ n. n ≤ length buf.new) }
+    ensures bytes { IfOk result (λ n. Consumes (R.remaining reader.old) (R.remaining reader.new) (take n buf.new)) }
+    ensures end { IfOk result (λ n. n < length buf.new → IsAtEnd (R.remaining reader.new)) }
 {
     let mut done = 0;
     while done < buf.len() {
         let n = reader.read(&mut buf[done..])?;
         if n == 0 {
-            break;
+            return Ok(done);
         }
         done += n;
     }
