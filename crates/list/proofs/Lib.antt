@@ -1,4 +1,5 @@
 pub mod Answers
 pub mod Whole
 pub mod Room
+pub mod Read
 pub mod Example

@@ -15,7 +15,7 @@ use Rattle.model.specs.Layout.{word_bytes, schema_words, header_words, record_wo
 use Rattle.model.specs.Calls.{schema_length, table_length, marks_length}
 use Rattle.codec.specs.Bytes.{words_of}
 use Rattle.list_text.specs.Text.{refused_text}
-use Rattle.list.specs.Program.{most_listed, most_words, schema_in, table_in, is_whole, answer_text, list_text}
+use Rattle.list.specs.Program.{most_listed, most_words, most_bytes, schema_in, table_in, is_whole, answer_text, list_text}
 use Rattle.list_text.specs.Placed.{Placed}
 use Rattle.codec.proofs.Words.{words_length}
 use Rattle.list_text.proofs.Laying.{as_text}
@@ -88,6 +88,9 @@ module _ (b : List ℕ) where
 
   pub not_long : count < schema_words + header_words → false ≡ is_whole b
   not_long h = not_whole (λ z. let l = z.least in absurd (omega arith))
+
+  pub not_short : most_bytes < length b → false ≡ is_whole b
+  not_short h = not_whole (λ z. let w = z.words in let m = z.most in absurd (omega arith))
 
   pub whole_is : length b % word_bytes ≡ 0 → schema_words + header_words ≤ count
       → (eqb ((count - (schema_words + header_words)) % record_words) 0 && leb (count - (schema_words + header_words)) (record_words * most_listed)) ≡ is_whole b

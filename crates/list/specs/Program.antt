@@ -14,6 +14,10 @@ most_listed = 200
 abbrev pub most_words : ℕ
 most_words = schema_words + header_words + record_words * most_listed
 
+-- The bytes of the longest input that is no refusal.
+abbrev pub most_bytes : ℕ
+most_bytes = word_bytes * most_words
+
 -- "reads schema, then table"
 abbrev pub schema_in : List ℕ → List ℕ
 schema_in b = take schema_words (words_of b)

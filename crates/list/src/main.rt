@@ -1,13 +1,15 @@
 // The list program: a schema and a table on standard input, the list of the shown records on standard output.
 #![tactic(auto)]
 
-ghost use Rattle.std.specs.Prelude.{◌≡◌, true, ◌+◌, ◌≤◌, length, take, drop};
+ghost use Rattle.std.specs.Prelude.{◌≡◌, true, IfOk, IfSome, OnOk, ◌+◌, ◌<◌, ◌≤◌, length, take, drop};
 ghost use Rattle.model.specs.Layout.{schema_words, header_words, capacity_of};
 ghost use Rattle.model.specs.Calls.{marks_length};
-ghost use Rattle.list.specs.Program.{most_listed, most_words, most_text, is_whole, answer_text, list_text};
+ghost use Rattle.list.specs.Program.{most_listed, most_words, most_bytes, most_text, is_whole, answer_text, list_text};
 ghost use Rattle.list_text.specs.Placed.{Placed};
+ghost use Rattle.std.specs.Io.KnownBytes.{Appends, Consumes, IsAtEnd};
 
-use libc::STDOUT_FILENO;
+use std::io;
+use std::io::{Read, Write};
 
 // The largest N that the program takes.
 const MOST_RECORDS: usize = 200;
@@ -24,31 +26,61 @@ const LINE_BYTES: usize = 50 * layout::FIELDS;
 
 const TEXT_BYTES: usize = LINE_BYTES * (MOST_RECORDS + 2);
 
-fn main() {
+fn main(rt: HostRuntime) -> io::Result<()> {
     let mut input = [0u8; INPUT_BYTES];
     let mut words = [0u64; MOST_WORDS];
     let mut marks = [0u8; MOST_RECORDS];
     let mut out = [0u8; TEXT_BYTES];
-    run(&mut input, &mut words, &mut marks, &mut out);
+    run(&rt, &mut input, &mut words, &mut marks, &mut out)
 }
 
 // A step of its own, so that no proof looks into the zeros of the arrays.
-fn run(
+fn run<R: Input + Print>(
+    rt: &R,
     input: &mut [u8; INPUT_BYTES],
     words: &mut [u64; MOST_WORDS],
     marks: &mut [u8; MOST_RECORDS],
     out: &mut [u8; TEXT_BYTES],
-) {
-    run_read(input, words, marks, out);
+) -> io::Result<()> {
+    let mut reader = rt.reader();
+    let mut writer = io::writer(rt);
+    run_read(&mut reader, &mut writer, input, words, marks, out)
 }
 
-// Reads the whole input and prints its text.
-fn run_read(input: &mut [u8], words: &mut [u64], marks: &mut [u8], out: &mut [u8])
+// Reads the whole input and prints its text. Of a reader whose bytes are known all bytes count, however many they are: a longer
+// input than the buffer holds is told apart from each that is whole.
+fn run_read<R: Read, W: Write>(
+    reader: &mut R,
+    writer: &mut W,
+    input: &mut [u8],
+    words: &mut [u64],
+    marks: &mut [u8],
+    out: &mut [u8],
+) -> io::Result<()>
     requires { (most_words ≤ length words.old) × (most_listed ≤ length marks.old) × (most_text ≤ length out.old) }
+    ensures { most_bytes < length input.old → OnOk result (IfSome (R.remaining reader.old) (λ b. Appends (W.contents writer.old) (W.contents writer.new) (list_text b))) }
 {
-    let n = io::read_full(0, input);
+    let n = read_full(reader, input)?;
     let k = respond(&input[0..n], words, marks, out);
-    io::write_all(STDOUT_FILENO, &out[0..k]);
+    writer.write_all(&out[0..k])
+}
+
+// Reads until the buffer is full or the input ends; how many bytes stand at the buffer's beginning. Of a reader whose bytes are
+// known these are the first, and all of them where the buffer has room left.
+fn read_full<R: Read>(reader: &mut R, buf: &mut [u8]) -> io::Result<usize>
+    ensures within { IfOk result (λ n. n ≤ length buf.new) }
+    ensures bytes { IfOk result (λ n. Consumes (R.remaining reader.old) (R.remaining reader.new) (take n buf.new)) }
+    ensures end { IfOk result (λ n. n < length buf.new → IsAtEnd (R.remaining reader.new)) }
+{
+    let mut done = 0;
+    while done < buf.len() {
+        let n = reader.read(&mut buf[done..])?;
+        if n == 0 {
+            return Ok(done);
+        }
+        done += n;
+    }
+    Ok(done)
 }
 
 // The text for an input, at the beginning of `out`, and its length.

@@ -1,12 +1,13 @@
 // An item: its slices, and what must come back against what came back.
-ghost use Rattle.std.specs.Prelude.{◌≡◌, false, ◌≤◌, eqb};
+ghost use Rattle.std.specs.Prelude.{◌≡◌, false, ◌≤◌, ◌==◌, IfOk};
 
 use crate::stream::{Cursor, number};
 use crate::{rows, stream, tally};
+use std::io;
 
 // What an item came to: the told answer, whether everything is as told, and the cursor's fields
 // after the item.
-#[derive(Drop)]
+#[derive(Clone, Copy)]
 pub struct Back {
     pub at: usize,
     pub words: u64,
@@ -17,7 +18,7 @@ pub struct Back {
 
 // The told answer, at an index, against the one that came back.
 pub fn answered(s: &[u8], at: usize, words: u64, sum: u64, got: u64) -> Back
-    ensures { (at ≤ result.at) × ((result.words ≡ words) × ((result.sum ≡ sum) × (result.good ≡ eqb result.answer got))) }
+    ensures { (at ≤ result.at) × ((result.words ≡ words) × ((result.sum ≡ sum) × (result.good ≡ result.answer == got))) }
 {
     let answer = number(s, at);
     Back {
@@ -59,7 +60,7 @@ pub fn with_exit(s: &[u8], back: Back, lent: usize, buffer: &[u64]) -> Back
 
 // The slices of an item are in the buffers: where each begins in the stream, and the cursor's
 // fields after them.
-#[derive(Drop)]
+#[derive(Clone, Copy)]
 pub struct Inputs {
     pub schema: usize,
     pub own: usize,
@@ -119,16 +120,23 @@ pub fn unknown(taken: Inputs) -> Back
 }
 
 // Counts an item; the place after it.
-pub fn counted(counts: &mut [u64], i: usize, category: u64, call: u64, back: Back) -> Cursor
-    ensures { (result.at ≡ back.at) × ((result.words ≡ back.words) × (result.sum ≡ back.sum)) }
+pub fn counted<P: Print>(
+    rt: &P,
+    counts: &mut [u64],
+    i: usize,
+    category: u64,
+    call: u64,
+    back: Back,
+) -> io::Result<Cursor>
+    ensures { IfOk result (λ c. (c.at ≡ back.at) × ((c.words ≡ back.words) × (c.sum ≡ back.sum))) }
 {
     tally::count_item(counts, category, call, back.answer);
-    tally::count_match(counts, i, back.good);
-    Cursor {
+    tally::count_match(rt, counts, i, back.good)?;
+    Ok(Cursor {
         at: back.at,
         zeros: 0,
         word: 0,
         words: back.words,
         sum: back.sum,
-    }
+    })
 }

@@ -2,6 +2,7 @@
 // what is printed. Each program runs the items of its own stream. docs/VECTORS.md tells the format and how a program is added.
 #![tactic(auto)]
 
+pub mod input;
 pub mod items;
 pub mod report;
 pub mod rows;

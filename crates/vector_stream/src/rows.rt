@@ -1,6 +1,6 @@
 // The rows of the calls, which the stream's first slice holds: the shape and the name of each.
 use crate::stream;
-use libc::STDOUT_FILENO;
+use std::io;
 
 const ROW: u64 = 24;
 
@@ -25,16 +25,17 @@ pub(crate) fn word(rows: &[u64], call: u64, k: u64) -> u64 {
     stream::get(rows, (call % 256 * ROW + k % ROW) as usize)
 }
 
-pub(crate) fn print_name(rows: &[u64], call: u64) {
+pub(crate) fn print_name<P: Print>(rt: &P, rows: &[u64], call: u64) -> io::Result<()> {
     for k in NAME..NAME_END {
-        print_letter(word(rows, call, k));
+        print_letter(rt, word(rows, call, k))?;
     }
+    Ok(())
 }
 
-fn print_letter(letter: u64) {
+fn print_letter<P: Print>(rt: &P, letter: u64) -> io::Result<()> {
     if letter == 0 {
-        return;
+        return Ok(());
     }
     let text = [(letter % 256) as u8];
-    io::write_all(STDOUT_FILENO, &text);
+    rt.write_all(&text)
 }

@@ -14,7 +14,7 @@ pub const SCHEMA_WORDS: usize = 256;
 pub const VALUES: usize = 64;
 
 // A number of the stream, and where the next one begins.
-#[derive(Drop)]
+#[derive(Clone, Copy)]
 pub struct Told {
     pub value: u64,
     pub at: usize,
@@ -22,7 +22,7 @@ pub struct Told {
 
 // A place in the stream: how many zeros of a run are still to come, the word last taken, and the
 // number and the digest of all words taken.
-#[derive(Drop)]
+#[derive(Clone, Copy)]
 pub struct Cursor {
     pub at: usize,
     pub zeros: u64,
@@ -76,7 +76,7 @@ pub fn begin(at: usize) -> Cursor
 
 // What was said of an exit: where the next number begins, whether the slice was to change, and
 // whether it is as told.
-#[derive(Drop)]
+#[derive(Clone, Copy)]
 pub struct Exit {
     pub at: usize,
     pub changed: bool,
@@ -102,6 +102,7 @@ fn wide(x: u8) -> u64
 }
 
 // A byte, 0 past the end.
+#[tactic(auto, unfolding(crate::specs::Stream::nth))]
 pub fn byte(s: &[u8], at: usize) -> u64
     ensures { result ≡ nth s.now at }
 {
@@ -142,6 +143,7 @@ pub fn least(a: u64, b: usize) -> usize
 }
 
 // Word `k`, 0 past the end.
+#[tactic(auto, unfolding(crate::specs::Stream::nth))]
 pub fn get(words: &[u64], k: usize) -> u64
     ensures { result ≡ nth words.now k }
 {

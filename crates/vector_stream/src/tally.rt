@@ -3,7 +3,7 @@ ghost use Rattle.std.specs.Prelude.{◌≡◌, set};
 ghost use Rattle.vector_stream.specs.Stream.{items_at, words_at, digest_at};
 
 use crate::stream::{get, put};
-use libc::STDOUT_FILENO;
+use std::io;
 
 // Categories begin at 0, and the answers of calls, 32 to a call, at ANSWERS.
 pub const ANSWERS: u64 = 256;
@@ -50,14 +50,19 @@ pub(crate) fn count_item(counts: &mut [u64], category: u64, call: u64, answer: u
 }
 
 // Counts a mismatch, and prints the number of the item while there are few.
-pub(crate) fn count_match(counts: &mut [u64], i: usize, good: bool) {
+pub(crate) fn count_match<P: Print>(
+    rt: &P,
+    counts: &mut [u64],
+    i: usize,
+    good: bool,
+) -> io::Result<()> {
     if good {
-        return;
+        return Ok(());
     }
     add(counts, MISMATCHES);
-    if get(counts, MISMATCHES) <= PRINTED {
-        io::write_all(STDOUT_FILENO, b"mismatch ");
-        io::print_decimal(STDOUT_FILENO, i as u64 % 4294967296 + 1);
-        io::write_all(STDOUT_FILENO, b"\n");
+    if PRINTED < get(counts, MISMATCHES) {
+        return Ok(());
     }
+    let item = i as u64 % 4294967296 + 1;
+    println!(rt; "mismatch {item}")
 }

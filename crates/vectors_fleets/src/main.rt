@@ -6,32 +6,39 @@ mod calls;
 mod fleet;
 mod slots;
 
+use std::io;
 use vector_stream::stream::Cursor;
-use vector_stream::{items, report, rows, stream, tally};
+use vector_stream::{input, items, report, rows, stream, tally};
 
-fn main() {
+fn main(rt: HostRuntime) -> io::Result<()> {
     let mut bytes = [0u8; stream::BYTES];
     let mut own = [0u64; stream::TABLE_WORDS];
     let mut third = [0u64; stream::TABLE_WORDS];
-    read_all(&mut bytes, &mut own, &mut third);
+    read_all(&rt, &mut bytes, &mut own, &mut third)
 }
 
 // A step of its own, so that no proof looks into the zeros of the arrays.
-fn read_all(
+fn read_all<R: Input + Print>(
+    rt: &R,
     bytes: &mut [u8; stream::BYTES],
     own: &mut [u64; stream::TABLE_WORDS],
     third: &mut [u64; stream::TABLE_WORDS],
-) {
-    run_read(bytes, own, third);
+) -> io::Result<()> {
+    run_read(rt, bytes, own, third)
 }
 
 // Reads the whole stream and runs it.
-fn run_read(bytes: &mut [u8], own: &mut [u64], third: &mut [u64]) {
-    let n = io::read_full(0, bytes);
-    run(&bytes[0..n], own, third);
+fn run_read<R: Input + Print>(
+    rt: &R,
+    bytes: &mut [u8],
+    own: &mut [u64],
+    third: &mut [u64],
+) -> io::Result<()> {
+    let n = input::read_full(&mut rt.reader(), bytes)?;
+    run(rt, &bytes[0..n], own, third)
 }
 
-fn run(s: &[u8], own: &mut [u64], third: &mut [u64]) {
+fn run<P: Print>(rt: &P, s: &[u8], own: &mut [u64], third: &mut [u64]) -> io::Result<()> {
     let mut rows = [0u64; rows::WORDS];
     let mut schema = [0u64; stream::SCHEMA_WORDS];
     let mut values = [0u64; stream::VALUES];
@@ -40,6 +47,7 @@ fn run(s: &[u8], own: &mut [u64], third: &mut [u64]) {
     let mut counts = [0u64; tally::COUNTS];
     let begin = stream::load(s, stream::begin(0), &mut rows);
     run_all(
+        rt,
         s,
         begin.at,
         &rows,
@@ -50,12 +58,14 @@ fn run(s: &[u8], own: &mut [u64], third: &mut [u64]) {
         &mut fleet,
         &mut delta,
         &mut counts,
-    );
-    report::report(&rows, &counts);
+    )?;
+    report::report(rt, &rows, &counts)?;
+    Ok(())
 }
 
 // Runs every item. An item has at least two bytes, so that a broken stream ends too.
-fn run_all(
+fn run_all<P: Print>(
+    rt: &P,
     s: &[u8],
     at: usize,
     rows: &[u64],
@@ -66,21 +76,21 @@ fn run_all(
     fleet: &mut [u64],
     delta: &mut [u64],
     counts: &mut [u64],
-) {
+) -> io::Result<()> {
     let told = stream::number(s, at);
     let count = stream::least(told.value, s.len());
     let mut c = stream::begin(told.at);
-    let mut i = 0;
-    while i < count {
+    for i in 0..count {
         c = run_item(
-            s, c, i, rows, schema, own, third, values, fleet, delta, counts,
-        );
-        i += 1;
+            rt, s, c, i, rows, schema, own, third, values, fleet, delta, counts,
+        )?;
     }
     tally::put_sums(counts, count as u64, c.words, c.sum);
+    Ok(())
 }
 
-fn run_item(
+fn run_item<P: Print>(
+    rt: &P,
     s: &[u8],
     c: Cursor,
     i: usize,
@@ -92,7 +102,7 @@ fn run_item(
     fleet: &mut [u64],
     delta: &mut [u64],
     counts: &mut [u64],
-) -> Cursor {
+) -> io::Result<Cursor> {
     let category = stream::byte(s, c.at);
     let at = stream::after(c.at);
     let call = stream::byte(s, at);
@@ -100,5 +110,5 @@ fn run_item(
     let back = calls::run(
         s, begin, call, rows, schema, own, third, values, fleet, delta,
     );
-    items::counted(counts, i, category, call, back)
+    items::counted(rt, counts, i, category, call, back)
 }

@@ -8,7 +8,7 @@ const WIDEN: u64 = 33;
 const NARROW: u64 = 34;
 
 // What a call came to: its answer's number, and the digest of the schema written.
-#[derive(Drop)]
+#[derive(Clone, Copy)]
 struct Turned {
     number: u64,
     sum: u64,
