@@ -1,5 +1,5 @@
 // An item: its slices, and what must come back against what came back.
-ghost use Rattle.std.specs.Prelude.{◌≡◌, false, ◌≤◌, ◌==◌, IfOk};
+ghost use Rattle.std.specs.Prelude.{◌≡◌, false, ◌≤◌, eqb, IfOk};
 
 use crate::stream::{Cursor, number};
 use crate::{rows, stream, tally};
@@ -18,7 +18,7 @@ pub struct Back {
 
 // The told answer, at an index, against the one that came back.
 pub fn answered(s: &[u8], at: usize, words: u64, sum: u64, got: u64) -> Back
-    ensures { (at ≤ result.at) × ((result.words ≡ words) × ((result.sum ≡ sum) × (result.good ≡ result.answer == got))) }
+    ensures { (at ≤ result.at) × ((result.words ≡ words) × ((result.sum ≡ sum) × (result.good ≡ eqb result.answer got))) }
 {
     let answer = number(s, at);
     Back {
