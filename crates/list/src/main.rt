@@ -1,7 +1,7 @@
 // The list program: a schema and a table on standard input, the list of the shown records on standard output.
 #![tactic(auto)]
 
-ghost use Rattle.std.specs.Prelude.{◌≡◌, true, IfOk, IfSome, OnOk, ◌+◌, ◌<◌, ◌≤◌, length, take, drop};
+ghost use Rattle.std.specs.Prelude.{◌≡◌, true, IfOk, IfSome, OnOk, ◌+◌, ◌<◌, ◌≤◌, length, take, drop, OnErr};
 ghost use Rattle.model.specs.Layout.{schema_words, header_words, capacity_of};
 ghost use Rattle.model.specs.Calls.{marks_length};
 ghost use Rattle.list.specs.Program.{most_listed, most_words, most_bytes, most_text, is_whole, answer_text, list_text};
@@ -70,6 +70,7 @@ fn run_read<R: Read, W: Write>(
 fn read_full<R: Read>(reader: &mut R, buf: &mut [u8]) -> io::Result<usize>
     ensures within { IfOk result (λ n. n ≤ length buf.new) }
     ensures bytes { IfOk result (λ n. Consumes (R.remaining reader.old) (R.remaining reader.new) (take n buf.new)) }
+    ensures failed { OnErr result (length buf.new ≡ length buf.old) }
     ensures end { IfOk result (λ n. n < length buf.new → IsAtEnd (R.remaining reader.new)) }
 {
     let mut done = 0;

@@ -1,5 +1,5 @@
 // An item: its slices, and what must come back against what came back.
-ghost use Rattle.std.specs.Prelude.{◌≡◌, false, ◌≤◌, eqb, IfOk};
+ghost use Rattle.std.specs.Prelude.{◌≡◌, false, ◌≤◌, eqb, length, IfOk, OnErr};
 
 use crate::stream::{Cursor, number};
 use crate::{rows, stream, tally};
@@ -119,7 +119,7 @@ pub fn unknown(taken: Inputs) -> Back
     }
 }
 
-// Counts an item; the place after it.
+// Counts an item; the place after it. It can fail where it prints, of an item that did not match.
 pub fn counted<P: Print>(
     rt: &P,
     counts: &mut [u64],
@@ -128,7 +128,8 @@ pub fn counted<P: Print>(
     call: u64,
     back: Back,
 ) -> io::Result<Cursor>
-    ensures { IfOk result (λ c. (c.at ≡ back.at) × ((c.words ≡ back.words) × (c.sum ≡ back.sum))) }
+    ensures counted { IfOk result (λ c. (c.at ≡ back.at) × ((c.words ≡ back.words) × (c.sum ≡ back.sum))) }
+    ensures failed { OnErr result ((back.good ≡ false) × (length counts.new ≡ length counts.old)) }
 {
     tally::count_item(counts, category, call, back.answer);
     tally::count_match(rt, counts, i, back.good)?;

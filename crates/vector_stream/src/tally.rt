@@ -1,5 +1,5 @@
 // The counts: for each category, for each answer of each call, and of the mismatches.
-ghost use Rattle.std.specs.Prelude.{◌≡◌, set};
+ghost use Rattle.std.specs.Prelude.{◌≡◌, false, set, OnErr};
 ghost use Rattle.vector_stream.specs.Stream.{items_at, words_at, digest_at};
 
 use crate::stream::{get, put};
@@ -55,7 +55,9 @@ pub(crate) fn count_match<P: Print>(
     counts: &mut [u64],
     i: usize,
     good: bool,
-) -> io::Result<()> {
+) -> io::Result<()>
+    ensures { OnErr result (good ≡ false) }
+{
     if good {
         return Ok(());
     }
