@@ -1,2 +1,2 @@
-pub mod Determined
+pub mod Refused
 pub mod Told

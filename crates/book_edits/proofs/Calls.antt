@@ -1,11 +1,10 @@
 -- The herd book's edits as the code reads them. Of its kind a record is edited by the library; of another kind the first checks tell, then 6.
 -- Assumes nothing.
-use Prim.Native.Nat.{ℕ, ◌≤◌}
-use mathlib.Core.Path.{◌≡◌, sym, ◌∙◌, ap}
+use Prim.Native.Nat.{ℕ}
+use mathlib.Core.Path.{◌≡◌, refl, sym, ◌∙◌, ap}
 use mathlib.Core.Logic.{◌≢◌}
-use mathlib.Core.Bool.{Bool, true, false}
+use mathlib.Core.Bool.{Bool, true, false, cond}
 use mathlib.Core.List.{List}
-use native.Mathlib.Omega.{arith}
 use lib.Dec.{eqb}
 use borrow.Author.Tests.{eqb-true, eqb-false, ne_eqb}
 use Rattle.answers.specs.Told.{Told, told}
@@ -24,28 +23,25 @@ module _ (index : Bool) (own delta : List ℕ) (r i : ℕ) (e : Edit) (h : relat
   unfolding of_kind lowest
   other_checks = rw (ne_eqb (relation_at own i) r h)
 
-  first_told : (n : ℕ) → told n 0 ≡ told (first_number index book own delta) 0 → n ≡ first_number index book own delta
-  first_told n t = ap (λ (k : Told). k.number) t
+  abbrev first : ℕ
+  first = first_number index book own delta
+
+  other_number : (n : ℕ) → n ≡ cond (eqb (first_number index book own delta) 0) 6 (first_number index book own delta) → n ≡ edit_number index book own delta (of_kind r own i e)
+  other_number n q = go (eqb first 0) refl
+    where
+      go : (b : Bool) → eqb first 0 ≡ b → n ≡ edit_number index book own delta (of_kind r own i e)
+      go true z = let w : 0 ≡ first = sym (eqb-true first 0 z) in rw z at q ∙ sym other_checks ∙ number_own index book own delta (of_kind r own i e) w
+      go false z = let w : n ≡ first = rw z at q in number_first index book own delta (of_kind r own i e) n w (λ v. eqb-false first 0 z (sym w ∙ v))
 
   -- a refusal changes no word
-  kept : (n : ℕ) → n ≡ edit_number index book own delta (of_kind r own i e)
-      → (told n 0 ≡ told (edit_number index book own delta (of_kind r own i e)) 0) × ((own ≡ edit_table (edit_number index book own delta (of_kind r own i e)) own (of_kind r own i e)) × (delta ≡ edit_delta (edit_number index book own delta (of_kind r own i e)) own delta (of_kind r own i e)))
-  kept n q = (ap (λ (k : ℕ). told k 0) q, (sym (other_table index own delta r i e h), sym (other_delta index own delta r i e h)))
+  pub other_kept : (n : ℕ) → n ≡ cond (eqb (first_number index book own delta) 0) 6 (first_number index book own delta)
+      → (n ≡ edit_number index book own delta (of_kind r own i e))
+      × ((own ≡ edit_table (edit_number index book own delta (of_kind r own i e)) own (of_kind r own i e)) × (delta ≡ edit_delta (edit_number index book own delta (of_kind r own i e)) own delta (of_kind r own i e)))
+  other_kept n q = (other_number n q, (sym (other_table index own delta r i e h), sym (other_delta index own delta r i e h)))
 
-  pub other_first : (n : ℕ) → 1 ≤ n → told n 0 ≡ told (first_number index book own delta) 0
-      → (told n 0 ≡ told (edit_number index book own delta (of_kind r own i e)) 0) × ((own ≡ edit_table (edit_number index book own delta (of_kind r own i e)) own (of_kind r own i e)) × (delta ≡ edit_delta (edit_number index book own delta (of_kind r own i e)) own delta (of_kind r own i e)))
-  other_first n l t = kept n (number_first index book own delta (of_kind r own i e) n (first_told n t) (λ z. omega arith))
-
-  pub other_hidden : told 0 0 ≡ told (first_number index book own delta) 0
-      → (told 6 0 ≡ told (edit_number index book own delta (of_kind r own i e)) 0) × ((own ≡ edit_table (edit_number index book own delta (of_kind r own i e)) own (of_kind r own i e)) × (delta ≡ edit_delta (edit_number index book own delta (of_kind r own i e)) own delta (of_kind r own i e)))
-  other_hidden t = kept 6 (sym other_checks ∙ number_own index book own delta (of_kind r own i e) (first_told 0 t))
-
--- As the code reads them: s is the schema lent to the library, q whether the record is of the kind, k what is told, x and y the words afterwards.
+-- As the code reads them: s is the schema lent to the library, k what is told, x and y the words afterwards.
 module _ (own delta : List ℕ) (s : List ℕ) (e : s ≡ book) (k : Told) (x y : List ℕ) where
-  module _ (r i : ℕ) (q : Bool) (g : q ≡ eqb (relation_at own i) r) (h : q ≡ true) where
-    own_kind : relation_at own i ≡ r
-    own_kind = eqb-true _ _ (sym g ∙ h)
-
+  module _ (r i : ℕ) (own_kind : relation_at own i ≡ r) where
     pub changed : (f new : ℕ) → k ≡ told (update_number s own delta i f new) 0 → x ≡ update_table s own delta i f new → y ≡ update_delta s own delta i f new
         → (k ≡ told (change_number r own delta i f new) 0) × ((x ≡ change_table r own delta i f new) × (y ≡ change_delta r own delta i f new))
     unfolding update_number update_table update_delta change_of change_number change_table change_delta
@@ -70,32 +66,13 @@ module _ (own delta : List ℕ) (s : List ℕ) (e : s ≡ book) (k : Told) (x y 
           ),
         )
 
--- the first checks, under the schema lent and with the index found bad or not
-pub first_lent : (own delta s : List ℕ) → s ≡ book → (i : ℕ) (bad : Bool) → bad ≡ bad_index own i → (k : Told) → k ≡ told (first_number bad s own delta) 0 → k ≡ told (first_number (bad_index own i) book own delta) 0
-first_lent own delta s e i bad b k h = h ∙ ap (λ (z : List ℕ). told (first_number bad z own delta) 0) e ∙ ap (λ (z : Bool). told (first_number z book own delta) 0) b
+-- of another kind, where n is what is answered
+module _ (own delta : List ℕ) (r i : ℕ) (other : relation_at own i ≢ r) (n : ℕ)
+    (q : n ≡ cond (eqb (first_number (bad_index own i) book own delta) 0) 6 (first_number (bad_index own i) book own delta)) where
+  pub unchanged : (f new : ℕ) → (n ≡ change_number r own delta i f new) × ((own ≡ change_table r own delta i f new) × (delta ≡ change_delta r own delta i f new))
+  unfolding change_of change_number change_table change_delta
+  unchanged f new = other_kept (bad_index own i) own delta r i (update_of book own i f new) other n q
 
--- of another kind, of which the first checks tell
-module _ (own delta : List ℕ) (r i : ℕ) (q : Bool) (g : q ≡ eqb (relation_at own i) r) (h : q ≡ false) where
-  other : relation_at own i ≢ r
-  other = eqb-false _ _ (sym g ∙ h)
-
-  module _ (f new : ℕ) where
-    pub change_first : (n : ℕ) → 1 ≤ n → told n 0 ≡ told (first_number (bad_index own i) book own delta) 0
-        → (told n 0 ≡ told (change_number r own delta i f new) 0) × ((own ≡ change_table r own delta i f new) × (delta ≡ change_delta r own delta i f new))
-    unfolding change_of change_number change_table change_delta
-    change_first = other_first (bad_index own i) own delta r i (update_of book own i f new) other
-
-    pub change_hidden : told 0 0 ≡ told (first_number (bad_index own i) book own delta) 0
-        → (told 6 0 ≡ told (change_number r own delta i f new) 0) × ((own ≡ change_table r own delta i f new) × (delta ≡ change_delta r own delta i f new))
-    unfolding change_of change_number change_table change_delta
-    change_hidden = other_hidden (bad_index own i) own delta r i (update_of book own i f new) other
-
-  pub strike_first : (n : ℕ) → 1 ≤ n → told n 0 ≡ told (first_number (bad_index own i) book own delta) 0
-      → (told n 0 ≡ told (strike_number r own delta i) 0) × ((own ≡ strike_table r own delta i) × (delta ≡ strike_delta r own delta i))
+  pub unstruck : (n ≡ strike_number r own delta i) × ((own ≡ strike_table r own delta i) × (delta ≡ strike_delta r own delta i))
   unfolding strike_of strike_number strike_table strike_delta
-  strike_first = other_first (bad_index own i) own delta r i (deletion_of book own i) other
-
-  pub strike_hidden : told 0 0 ≡ told (first_number (bad_index own i) book own delta) 0
-      → (told 6 0 ≡ told (strike_number r own delta i) 0) × ((own ≡ strike_table r own delta i) × (delta ≡ strike_delta r own delta i))
-  unfolding strike_of strike_number strike_table strike_delta
-  strike_hidden = other_hidden (bad_index own i) own delta r i (deletion_of book own i) other
+  unstruck = other_kept (bad_index own i) own delta r i (deletion_of book own i) other n q

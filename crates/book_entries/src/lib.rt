@@ -2,15 +2,16 @@
 #![tactic(auto)]
 
 ghost use Rattle.std.specs.Prelude.{◌≡◌, [], ◌∷◌};
-ghost use Rattle.answers.specs.Told.{told, insertion_told};
+ghost use Rattle.answers.specs.Refused.{value_told};
+ghost use Rattle.answers.specs.Told.{told};
 ghost use Rattle.model.specs.Calls.{insertion_number, insertion_label, insertion_table, insertion_delta};
 ghost use Rattle.model.specs.Book.{groups, cows, robots, milkings, cleanings, treatments, book};
 
-use answers::InsertionAnswer;
+use answers::Refusal;
 
 // Enters a record of relation `kind`.
-fn enter(own: &mut [u64], delta: &mut [u64], kind: usize, values: &[u64]) -> InsertionAnswer
-    ensures answer { insertion_told result ≡ told (insertion_number book own.old delta.old kind values.now) (insertion_label book own.old delta.old kind values.now) }
+fn enter(own: &mut [u64], delta: &mut [u64], kind: usize, values: &[u64]) -> Result<u64, Refusal>
+    ensures answer { value_told result ≡ told (insertion_number book own.old delta.old kind values.now) (insertion_label book own.old delta.old kind values.now) }
     ensures words { own.new ≡ insertion_table book own.old delta.old kind values.now }
     ensures delta_words { delta.new ≡ insertion_delta book own.old delta.old kind values.now }
 {
@@ -19,13 +20,12 @@ fn enter(own: &mut [u64], delta: &mut [u64], kind: usize, values: &[u64]) -> Ins
 }
 
 // Enters a group.
-pub fn enter_group(own: &mut [u64], delta: &mut [u64], number: u64) -> InsertionAnswer
-    ensures answer { insertion_told result ≡ told (insertion_number book own.old delta.old groups (number ∷ [])) (insertion_label book own.old delta.old groups (number ∷ [])) }
+pub fn enter_group(own: &mut [u64], delta: &mut [u64], number: u64) -> Result<u64, Refusal>
+    ensures answer { value_told result ≡ told (insertion_number book own.old delta.old groups (number ∷ [])) (insertion_label book own.old delta.old groups (number ∷ [])) }
     ensures words { own.new ≡ insertion_table book own.old delta.old groups (number ∷ []) }
     ensures delta_words { delta.new ≡ insertion_delta book own.old delta.old groups (number ∷ []) }
 {
-    let values = [number];
-    enter(own, delta, book_schema::GROUP, &values)
+    enter(own, delta, book_schema::GROUP, &[number])
 }
 
 // Enters a cow; her group may be empty.
@@ -35,23 +35,21 @@ pub fn enter_cow(
     ear_tag: u64,
     transponder: u64,
     group: u64,
-) -> InsertionAnswer
-    ensures answer { insertion_told result ≡ told (insertion_number book own.old delta.old cows (ear_tag ∷ transponder ∷ group ∷ [])) (insertion_label book own.old delta.old cows (ear_tag ∷ transponder ∷ group ∷ [])) }
+) -> Result<u64, Refusal>
+    ensures answer { value_told result ≡ told (insertion_number book own.old delta.old cows (ear_tag ∷ transponder ∷ group ∷ [])) (insertion_label book own.old delta.old cows (ear_tag ∷ transponder ∷ group ∷ [])) }
     ensures words { own.new ≡ insertion_table book own.old delta.old cows (ear_tag ∷ transponder ∷ group ∷ []) }
     ensures delta_words { delta.new ≡ insertion_delta book own.old delta.old cows (ear_tag ∷ transponder ∷ group ∷ []) }
 {
-    let values = [ear_tag, transponder, group];
-    enter(own, delta, book_schema::COW, &values)
+    enter(own, delta, book_schema::COW, &[ear_tag, transponder, group])
 }
 
 // Enters a robot.
-pub fn enter_robot(own: &mut [u64], delta: &mut [u64], number: u64) -> InsertionAnswer
-    ensures answer { insertion_told result ≡ told (insertion_number book own.old delta.old robots (number ∷ [])) (insertion_label book own.old delta.old robots (number ∷ [])) }
+pub fn enter_robot(own: &mut [u64], delta: &mut [u64], number: u64) -> Result<u64, Refusal>
+    ensures answer { value_told result ≡ told (insertion_number book own.old delta.old robots (number ∷ [])) (insertion_label book own.old delta.old robots (number ∷ [])) }
     ensures words { own.new ≡ insertion_table book own.old delta.old robots (number ∷ []) }
     ensures delta_words { delta.new ≡ insertion_delta book own.old delta.old robots (number ∷ []) }
 {
-    let values = [number];
-    enter(own, delta, book_schema::ROBOT, &values)
+    enter(own, delta, book_schema::ROBOT, &[number])
 }
 
 // Enters a milking: grams, tenths of a degree and minute.
@@ -63,13 +61,17 @@ pub fn enter_milking(
     grams: u64,
     tenths: u64,
     minute: u64,
-) -> InsertionAnswer
-    ensures answer { insertion_told result ≡ told (insertion_number book own.old delta.old milkings (cow ∷ robot ∷ grams ∷ tenths ∷ minute ∷ [])) (insertion_label book own.old delta.old milkings (cow ∷ robot ∷ grams ∷ tenths ∷ minute ∷ [])) }
+) -> Result<u64, Refusal>
+    ensures answer { value_told result ≡ told (insertion_number book own.old delta.old milkings (cow ∷ robot ∷ grams ∷ tenths ∷ minute ∷ [])) (insertion_label book own.old delta.old milkings (cow ∷ robot ∷ grams ∷ tenths ∷ minute ∷ [])) }
     ensures words { own.new ≡ insertion_table book own.old delta.old milkings (cow ∷ robot ∷ grams ∷ tenths ∷ minute ∷ []) }
     ensures delta_words { delta.new ≡ insertion_delta book own.old delta.old milkings (cow ∷ robot ∷ grams ∷ tenths ∷ minute ∷ []) }
 {
-    let values = [cow, robot, grams, tenths, minute];
-    enter(own, delta, book_schema::MILKING, &values)
+    enter(
+        own,
+        delta,
+        book_schema::MILKING,
+        &[cow, robot, grams, tenths, minute],
+    )
 }
 
 // Enters a cleaning, with its start and end minute.
@@ -79,13 +81,12 @@ pub fn enter_cleaning(
     robot: u64,
     start: u64,
     end: u64,
-) -> InsertionAnswer
-    ensures answer { insertion_told result ≡ told (insertion_number book own.old delta.old cleanings (robot ∷ start ∷ end ∷ [])) (insertion_label book own.old delta.old cleanings (robot ∷ start ∷ end ∷ [])) }
+) -> Result<u64, Refusal>
+    ensures answer { value_told result ≡ told (insertion_number book own.old delta.old cleanings (robot ∷ start ∷ end ∷ [])) (insertion_label book own.old delta.old cleanings (robot ∷ start ∷ end ∷ [])) }
     ensures words { own.new ≡ insertion_table book own.old delta.old cleanings (robot ∷ start ∷ end ∷ []) }
     ensures delta_words { delta.new ≡ insertion_delta book own.old delta.old cleanings (robot ∷ start ∷ end ∷ []) }
 {
-    let values = [robot, start, end];
-    enter(own, delta, book_schema::CLEANING, &values)
+    enter(own, delta, book_schema::CLEANING, &[robot, start, end])
 }
 
 // Enters a treatment, with the first and the last withheld minute.
@@ -95,11 +96,10 @@ pub fn enter_treatment(
     cow: u64,
     first: u64,
     last: u64,
-) -> InsertionAnswer
-    ensures answer { insertion_told result ≡ told (insertion_number book own.old delta.old treatments (cow ∷ first ∷ last ∷ [])) (insertion_label book own.old delta.old treatments (cow ∷ first ∷ last ∷ [])) }
+) -> Result<u64, Refusal>
+    ensures answer { value_told result ≡ told (insertion_number book own.old delta.old treatments (cow ∷ first ∷ last ∷ [])) (insertion_label book own.old delta.old treatments (cow ∷ first ∷ last ∷ [])) }
     ensures words { own.new ≡ insertion_table book own.old delta.old treatments (cow ∷ first ∷ last ∷ []) }
     ensures delta_words { delta.new ≡ insertion_delta book own.old delta.old treatments (cow ∷ first ∷ last ∷ []) }
 {
-    let values = [cow, first, last];
-    enter(own, delta, book_schema::TREATMENT, &values)
+    enter(own, delta, book_schema::TREATMENT, &[cow, first, last])
 }

@@ -1,67 +1,47 @@
 // The herd book's search for a shown milking.
 #![tactic(auto)]
 
-ghost use Rattle.std.specs.Prelude.{◌≡◌, cond, ◌≤◌, ◌<◌};
-ghost use Rattle.answers.specs.Told.{told, find_told};
+ghost use Rattle.std.specs.Prelude.{◌≡◌, not, eqb, ◌≤◌};
+ghost use Rattle.answers.specs.Told.{told_known};
+ghost use Rattle.answers.specs.Refused.{known_told};
 ghost use Rattle.model.specs.Layout.{used_at};
 ghost use Rattle.model.specs.Schemas.{schema_of};
-ghost use Rattle.model.specs.Records.{label_span, place, has, in_order, position};
+ghost use Rattle.model.specs.Records.{has, in_order};
 ghost use Rattle.model.specs.Tables.{decode, record_of};
 ghost use Rattle.model.specs.Shown.{shown};
-ghost use Rattle.model.specs.Book.{milkings, book, find_number, find_index};
-ghost use Rattle.references.specs.Order.{Checked};
-ghost use Rattle.merge_laws.specs.Absorb.{records_in, Whole};
+ghost use Rattle.model.specs.Book.{find_number, find_index};
 
-use answers::FindAnswer;
+use answers::Refusal;
 use crdt::Label;
+use judged::Judged;
 
-// The index of the milking with that label, shown or not; 0 where there is none.
-fn known(table: &[u64], label: u64) -> usize
-    requires { Whole table.now × (1 ≤ label) × (label < label_span) }
-    ensures { result ≡ position (place milkings label) (records_in table.now) }
+// Whether record `i` is shown.
+fn is_shown(t: Judged<'_>, i: usize) -> bool
+    requires { (1 ≤ i) × (i ≤ used_at t.table.now) }
+    ensures { result ≡ has (shown (schema_of t.entry.schema.now) (in_order (decode t.entry.table.now).records)) (record_of t.entry.table.now i).key }
 {
-    let link = merge_seek::seek(
-        table,
-        layout::FIRST_WORDS + (book_schema::MILKING - 1),
-        label,
-    );
-    if merge_seek::meets(table, link, label) {
-        return layout::word(table, link) as usize;
-    }
-    0
-}
-
-// The index of a record if it is shown, else 0.
-fn if_shown(table: &[u64], index: usize) -> usize
-    requires { Checked book table.now × (1 ≤ index) × (index ≤ used_at table.now) }
-    ensures { result ≡ cond (has (shown (schema_of book) (in_order (decode table.now).records)) (record_of table.now index).key) index 0 }
-{
-    let schema = book_schema::schema();
     let mut marks = [0u8; layout::MOST_RECORDS];
-    list_shown::mark_shown(&schema, table, &mut marks);
-    if marks[index - 1] == 1 {
-        return index;
-    }
-    0
+    list_shown::mark_shown(t, &mut marks);
+    marks[i - 1] == 1
 }
 
-// The index of the shown milking with that label, 0 where there is none.
-pub fn find_milking(table: &[u64], label: u64) -> FindAnswer
-    ensures { find_told result ≡ told (find_number table.now) (find_index table.now label) }
+// The index of the shown milking with that label.
+pub fn find_milking(table: &[u64], label: u64) -> Result<Option<usize>, Refusal>
+    ensures { known_told result ≡ told_known (find_number table.now) (find_index table.now label) (not (eqb (find_index table.now label) 0)) }
 {
     if !layout::table_length(table) {
-        return FindAnswer::WrongLength;
+        return Err(Refusal::WrongLength);
     }
     let schema = book_schema::schema();
-    if !table::well_formed(&schema, table) {
-        return FindAnswer::TableBroken;
-    }
+    let t = judged::judge(&schema, table)?;
     if !Label::is_label(label) {
-        return FindAnswer::Given(0);
+        return Ok(None);
     }
-    let index = known(table, label);
-    if index == 0 {
-        return FindAnswer::Given(0);
+    let Some(i) = edit_targets::find(t, book_schema::MILKING, label) else {
+        return Ok(None);
+    };
+    if !is_shown(t, i) {
+        return Ok(None);
     }
-    FindAnswer::Given(if_shown(table, index))
+    Ok(Some(i))
 }

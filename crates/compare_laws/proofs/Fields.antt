@@ -60,11 +60,11 @@ module _ (t b : List ℕ) (p q : ℕ) where
   fails_on n zero e = let q : 0 + n ≡ n = omega arith in rw q e
   fails_on n (suc m) e = let q : suc m + n ≡ suc (m + n) = omega arith in rw q (fails_more (m + n) (fails_on n m e))
 
-  pub fields_fail : (n : ℕ) → n < fields → field_up_to t p b q (n + 1) ≡ false → false ≡ fields_up_to fields t p b q
-  fields_fail n l h =
-      let e : fields_up_to (suc n) t p b q ≡ false = unfold fields_up_to in rw (← add-one n, h) (sym (and_none (fields_up_to n t p b q))) in
-      let q : (fields - suc n) + suc n ≡ fields = omega arith in
-      sym (rw q at (fails_on (suc n) (fields - suc n) e))
+  -- fields that fail are none of more
+  pub fails_within : (n m : ℕ) → n ≤ m → false ≡ fields_up_to n t p b q → false ≡ fields_up_to m t p b q
+  fails_within n m l e = let k : (m - n) + n ≡ m = omega arith in sym (rw k at (fails_on n (m - n) (sym e)))
 
-  pub fields_all : (n : ℕ) → n ≤ fields → fields ≤ n → true ≡ fields_up_to n t p b q → true ≡ fields_up_to fields t p b q
-  fields_all n h l e = let q : n ≡ fields = omega arith in rw q at e
+  pub fields_fail : (n m : ℕ) → n < m → field_up_to t p b q (n + 1) ≡ false → false ≡ fields_up_to m t p b q
+  fields_fail n m l h =
+      let e : fields_up_to (suc n) t p b q ≡ false = unfold fields_up_to in rw (← add-one n, h) (sym (and_none (fields_up_to n t p b q))) in
+      fails_within (suc n) m (omega arith) (sym e)

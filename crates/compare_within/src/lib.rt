@@ -6,8 +6,10 @@ ghost use Rattle.std.specs.Prelude.{◌≡◌, true, ◌&&◌, ◌^◌, ◌/◌,
 ghost use Rattle.model.specs.Layout.{fields, most_relations, most_records, word, label_at};
 ghost use Rattle.model.specs.Tables.{contents};
 ghost use Rattle.model.specs.Compare.{join_contents, same_contents};
-ghost use Rattle.merge_laws.specs.Absorb.{records_in, Whole, meets};
+ghost use Rattle.merge_laws.specs.Absorb.{records_in, meets};
 ghost use Rattle.compare_laws.specs.UpTo.{chain_up_to, records_up_to, field_up_to, fields_up_to, record_up_to};
+
+use merge_seek::WholeTable;
 
 // Whether field `f` behind word `p` of the first table has an older stamp than the one behind word `q` of the second, or the same stamp and no
 // larger value.
@@ -20,18 +22,25 @@ fn field_within(first: &[u64], p: usize, second: &[u64], q: usize, f: usize) -> 
     (old < new) | ((old == new) & (layout::word(first, p + f) <= layout::word(second, q + f)))
 }
 
-// The fields behind the first half, where that is up to the second's. The compiler unrolls a loop over half of the
-// fields, and not one over all of them, which takes longer for each field.
-fn rest_within(first: &[u64], p: usize, second: &[u64], q: usize) -> bool
-    requires { (p ≤ 2 ^ 62) × (q ≤ 2 ^ 62) × (true ≡ fields_up_to (fields / 2) first.now p second.now q) }
-    ensures { result ≡ fields_up_to fields first.now p second.now q }
+// Half of the fields: the compiler unrolls a loop over these, and not one over all of them, which takes longer for each field.
+const HALF: usize = layout::FIELDS / 2;
+
+const ALL: usize = layout::FIELDS;
+
+// Whether the first `TO` fields are up to the second's, where the first `FROM` are.
+fn part_within<const FROM: usize, const TO: usize>(
+    first: &[u64],
+    p: usize,
+    second: &[u64],
+    q: usize,
+) -> bool
+    requires { (p ≤ 2 ^ 62) × (q ≤ 2 ^ 62) × (FROM ≤ TO) × (TO ≤ fields) × (true ≡ fields_up_to FROM first.now p second.now q) }
+    ensures { result ≡ fields_up_to TO first.now p second.now q }
 {
-    let mut done = layout::FIELDS / 2;
-    while done < layout::FIELDS {
+    for done in FROM..TO {
         if !field_within(first, p, second, q, done + 1) {
             return false;
         }
-        done += 1;
     }
     true
 }
@@ -40,14 +49,10 @@ fn fields_within(first: &[u64], p: usize, second: &[u64], q: usize) -> bool
     requires { (p ≤ 2 ^ 62) × (q ≤ 2 ^ 62) }
     ensures { result ≡ fields_up_to fields first.now p second.now q }
 {
-    let mut done = 0;
-    while done < layout::FIELDS / 2 {
-        if !field_within(first, p, second, q, done + 1) {
-            return false;
-        }
-        done += 1;
+    if !part_within::<0, HALF>(first, p, second, q) {
+        return false;
     }
-    rest_within(first, p, second, q)
+    part_within::<HALF, ALL>(first, p, second, q)
 }
 
 // Whether record `j` of the first table has no larger flag than record `i` of the second, and no later register.
@@ -75,43 +80,39 @@ fn link_within(first: &[u64], j: usize, second: &[u64], link: usize) -> bool
 }
 
 // Whether each record of a relation of the first table is up to the second's.
-fn chain_within(first: &[u64], second: &[u64], relation: usize) -> bool
-    requires { Whole first.now × Whole second.now × (1 ≤ relation) × (relation ≤ most_relations) }
-    ensures { result ≡ chain_up_to (records_in second.now) relation (records_in first.now) }
+fn chain_within(first: WholeTable, second: WholeTable, relation: usize) -> bool
+    requires { (1 ≤ relation) × (relation ≤ most_relations) }
+    ensures { result ≡ chain_up_to (records_in second.entry.words.now) relation (records_in first.entry.words.now) }
 {
     let mut link = layout::FIRST_WORDS + (relation - 1);
-    let mut j = layout::first_at(first, relation);
+    let mut j = layout::first_at(first.words, relation);
     while 0 < j {
-        link = merge_seek::seek(second, link, layout::label_at(first, j));
-        if !link_within(first, j, second, link) {
+        link = merge_seek::seek(second.words, link, layout::label_at(first.words, j));
+        if !link_within(first.words, j, second.words, link) {
             return false;
         }
-        j = layout::next_at(first, j);
+        j = layout::next_at(first.words, j);
     }
     true
 }
 
 // Whether each record of the first table is up to the second's.
-fn records_within(first: &[u64], second: &[u64]) -> bool
-    requires { Whole first.now × Whole second.now }
-    ensures { result ≡ records_up_to (records_in second.now) (records_in first.now) }
+fn records_within(first: WholeTable, second: WholeTable) -> bool
+    ensures { result ≡ records_up_to (records_in second.entry.words.now) (records_in first.entry.words.now) }
 {
-    let mut relation = 1;
-    while relation <= layout::MOST_RELATIONS {
+    for relation in 1..=layout::MOST_RELATIONS {
         if !chain_within(first, second, relation) {
             return false;
         }
-        relation += 1;
     }
     true
 }
 
 // Whether the first table is behind the second or alike: the merge of both has exactly the second's contents.
-pub fn within(first: &[u64], second: &[u64]) -> bool
-    requires { Whole first.now × Whole second.now }
-    ensures { result ≡ same_contents (join_contents (contents first.now) (contents second.now)) (contents second.now) }
+pub fn within(first: WholeTable, second: WholeTable) -> bool
+    ensures { result ≡ same_contents (join_contents (contents first.entry.words.now) (contents second.entry.words.now)) (contents second.entry.words.now) }
 {
-    if layout::clock(second) < layout::clock(first) {
+    if layout::clock(second.words) < layout::clock(first.words) {
         return false;
     }
     records_within(first, second)

@@ -1,7 +1,7 @@
 // Labels, registers and flags: the parts that every table is made of.
 #![tactic(auto)]
 
-ghost use Rattle.std.specs.Prelude.{◌≡◌, not, ◌≤◌, ◌<◌, max, eqb};
+ghost use Rattle.std.specs.Prelude.{◌≡◌, not, ◌≤◌, ◌<◌, max, eqb, unwrap_or, is_some};
 ghost use Rattle.crdt.specs.Labels.{is_label, label_within, counter_of, replica_of};
 ghost use Rattle.crdt.specs.Flags.{largest_flag, deleted, redone};
 ghost use Rattle.crdt.specs.Cells.{reg, join_reg, reg_changed};
@@ -53,62 +53,37 @@ impl Label {
     }
 }
 
-// A value and its stamp, a label or none.
-#[derive(Clone, Copy)]
+// A value and its stamp, a label or none. Registers are in order by stamp, with equal stamps by value.
+#[derive(Clone, Copy, Debug, PartialEq, Eq, PartialOrd, Ord)]
 pub struct Register {
-    pub value: u64,
     pub stamp: u64,
-}
-
-// A joined register, and whether its value or stamp differs from before.
-#[derive(Clone, Copy)]
-pub struct JoinedRegister {
-    pub register: Register,
-    pub changed: bool,
+    pub value: u64,
 }
 
 // The register with the larger stamp; with equal stamps the one with the larger value.
 fn larger_register(a: Register, b: Register) -> Register
     ensures { reg result.value result.stamp ≡ join_reg (reg a.value a.stamp) (reg b.value b.stamp) }
 {
-    if a.stamp < b.stamp {
-        return b;
-    }
-    if a.stamp == b.stamp {
-        if a.value <= b.value {
-            return b;
-        }
-    }
-    a
+    a.max(b)
 }
 
-// The join of register `a`, which was there before, with register `b`.
-pub fn join_registers(a: Register, b: Register) -> JoinedRegister
-    ensures joined { reg result.register.value result.register.stamp ≡ join_reg (reg a.value a.stamp) (reg b.value b.stamp) }
-    ensures changed { result.changed ≡ reg_changed (reg a.value a.stamp) (reg result.register.value result.register.stamp) }
+// The join of register `a`, which was there before, with register `b`, if its value or stamp differs from before.
+pub fn join_registers(a: Register, b: Register) -> Option<Register>
+    ensures joined { let r = unwrap_or result a in reg r.value r.stamp ≡ join_reg (reg a.value a.stamp) (reg b.value b.stamp) }
+    ensures changed { let r = unwrap_or result a in is_some result ≡ reg_changed (reg a.value a.stamp) (reg r.value r.stamp) }
 {
-    let value = a.value;
-    let stamp = a.stamp;
     let register = larger_register(a, b);
-    let changed = (value != register.value) | (stamp != register.stamp);
-    JoinedRegister { register, changed }
+    (register != a).then_some(register)
 }
 
 // The largest flag.
 pub const LARGEST_FLAG: u64 = 65535;
 
-// A joined flag, and whether it differs from before.
-#[derive(Clone, Copy)]
-pub struct JoinedFlag {
-    pub flag: u64,
-    pub changed: bool,
-}
-
 // The larger of two flags, on 16 bits.
 fn larger(a: u16, b: u16) -> u16
     ensures { result ≡ max a b }
 {
-    if a < b { b } else { a }
+    u16::max(a, b)
 }
 
 // The larger of two flags; a number above the largest flag gives the largest flag.
@@ -123,19 +98,18 @@ fn larger_flag(a: u64, b: u64) -> u64
     if LARGEST_FLAG < b {
         return LARGEST_FLAG;
     }
-    larger(a as u16, b as u16) as u64
+    u64::from(larger(a as u16, b as u16))
 }
 
-// The join of flag `a`, which was there before, with flag `b`.
-pub fn join_flags(a: u64, b: u64) -> JoinedFlag
-    ensures flags { a ≤ largest_flag → b ≤ largest_flag → result.flag ≡ max a b }
-    ensures left_beyond { largest_flag < a → result.flag ≡ largest_flag }
-    ensures right_beyond { largest_flag < b → result.flag ≡ largest_flag }
-    ensures changed { result.changed ≡ not (eqb a result.flag) }
+// The join of flag `a`, which was there before, with flag `b`, if it differs from before.
+pub fn join_flags(a: u64, b: u64) -> Option<u64>
+    ensures flags { a ≤ largest_flag → b ≤ largest_flag → unwrap_or result a ≡ max a b }
+    ensures left_beyond { largest_flag < a → unwrap_or result a ≡ largest_flag }
+    ensures right_beyond { largest_flag < b → unwrap_or result a ≡ largest_flag }
+    ensures changed { is_some result ≡ not (eqb a (unwrap_or result a)) }
 {
     let flag = larger_flag(a, b);
-    let changed = a != flag;
-    JoinedFlag { flag, changed }
+    (flag != a).then_some(flag)
 }
 
 // An even flag raised by 1; an odd one, and what is no flag, as it was.

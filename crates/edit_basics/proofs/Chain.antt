@@ -12,7 +12,8 @@ use Rattle.crdt.proofs.Tests.{Tri, low, same, high, tri, test, and_left, and_rig
 use Rattle.model.specs.Layout.{most_relations, used_at, first_at, next_at, relation_at, label_at}
 use Rattle.model.specs.Records.{label_span, place, position}
 use Rattle.model.specs.Tables.{decode, record_of}
-use Rattle.references.specs.Order.{Checked, key_at}
+use Rattle.judged.specs.Checked.{Checked}
+use Rattle.references.specs.Order.{key_at}
 use Rattle.references.proofs.Places.{label_bounds, relation_least, relation_most, key_is, key_relation, position_is, position_nowhere}
 use Rattle.marks.proofs.Chain.{On, Before, left, first_on, first_before, next_on, next_before, next_less}
 

@@ -22,7 +22,8 @@ use Rattle.laws.proofs.Shown.{has_in, in_has}
 use Rattle.laws.proofs.Drafts.{has_order}
 use Rattle.wellformed.proofs.Facts.{label_span_lem}
 use Rattle.wellformed.proofs.Follow.{position_none}
-use Rattle.references.specs.Order.{Checked, key_at}
+use Rattle.judged.specs.Checked.{Checked}
+use Rattle.references.specs.Order.{key_at}
 use Rattle.references.specs.Resolved.{Marked}
 use Rattle.references.proofs.Places.{Spot, spot, position_is, key_is, label_bounds}
 use Rattle.marks.specs.Marks.{is_marked}

@@ -19,7 +19,8 @@ use Rattle.model.specs.Tables.{decode, record_of}
 use Rattle.model.specs.Shown.{described, leads, targets, references}
 use Rattle.wellformed.proofs.Values.{kinds_of_lem}
 use Rattle.wellformed.proofs.Follow.{position_none}
-use Rattle.references.specs.Order.{Checked, key_at}
+use Rattle.judged.specs.Checked.{Checked}
+use Rattle.references.specs.Order.{key_at}
 use Rattle.references.specs.Resolved.{absent, found, resolved_at, Resolves}
 use Rattle.references.proofs.Places.{Spot, spot, position_is, key_relation, relation_least, relation_known, fields_most, used_most}
 use Rattle.edit_basics.specs.Targets.{kinds_of, Placed, meets}

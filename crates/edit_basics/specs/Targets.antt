@@ -7,7 +7,7 @@ use Rattle.model.specs.Lists.{listed}
 use Rattle.model.specs.Schemas.{Relation, schema_of}
 use Rattle.model.specs.Records.{Rec, in_order}
 use Rattle.model.specs.Tables.{decode}
-use Rattle.references.specs.Order.{Checked}
+use Rattle.judged.specs.Checked.{Checked}
 
 -- The kinds of relation r.
 abbrev pub kinds_of : List ℕ → ℕ → List ℕ

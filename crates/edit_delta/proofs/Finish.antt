@@ -16,7 +16,7 @@ use Rattle.crdt.proofs.Tests.{test}
 use Rattle.model.specs.Layout.{fields}
 use Rattle.model.specs.Records.{Rec, place, relation, label, label_span, has, own, at, Rising, position}
 use Rattle.model.specs.Tables.{Table, encode}
-use Rattle.laws.proofs.Join.{at_tail, ext, nothing}
+use Rattle.laws.proofs.Join.{at_tail, ext}
 use Rattle.laws.proofs.Members.{at_member, rising_distinct}
 use Rattle.wellformed.proofs.Follow.{position_some}
 use Rattle.wellformed.proofs.Words.{enc_used, enc_relation, enc_label}

@@ -2,7 +2,7 @@
 -- Assumes nothing.
 use Prim.Native.Nat.{ℕ, zero, suc, ◌+◌, ◌-◌, ◌/◌, ◌≤◌, ◌<◌, max}
 use mathlib.Core.Path.{◌≡◌, refl, sym, ◌∙◌, ap}
-use mathlib.Core.Bool.{Bool, true, false, cond, ◌||◌, not}
+use mathlib.Core.Bool.{Bool, true, false, cond, ◌||◌}
 use mathlib.Core.List.{List, [], ◌∷◌, ◌++◌}
 use mathlib.Core.Option.{Option, none, some}
 use mathlib.Core.Logic.{◌⊎◌, inl, inr, ◌≢◌}
@@ -15,7 +15,7 @@ use Rattle.crdt.specs.Flags.{largest_flag, redone}
 use Rattle.crdt.specs.Cells.{Reg, no_reg, join_reg, join_regs, Cell, join_cell, join_opt}
 use Rattle.crdt.proofs.Tests.{test, clash, and_left, and_right}
 use Rattle.model.specs.Layout.{fields, most_relations, delta_records, clock_at, used_at, replica_at, first_at, next_at, relation_at, label_at, flag_at}
-use Rattle.model.specs.Records.{Rec, place, relation, label, label_span, has, own, at, Rising}
+use Rattle.model.specs.Records.{Rec, place, relation, label_span, has, own, at, Rising}
 use Rattle.model.specs.Tables.{Table, record_of, decode, encode, follower}
 use Rattle.model.specs.Edits.{flag_only, new_label}
 use Rattle.laws.proofs.Join.{opt_none, own_self, own_other, nothing}
@@ -29,7 +29,7 @@ use Rattle.laws.proofs.Fields.{label_within_lem}
 use Rattle.wellformed.proofs.Follow.{Follows, Last, follows}
 use Rattle.edit_delta.specs.Picked.{draft_of}
 use Rattle.edit_record.specs.Record.{marked, appended, stepped}
-use Rattle.edit_delta.specs.Drafting.{Source, Edited, existing, new, key_of, wanted, drafted, end_of}
+use Rattle.edit_delta.specs.Drafting.{Source, Edited, key_of, wanted, drafted, end_of}
 use Rattle.merge_laws.specs.Absorb.{with_records, SoundRecord, SoundTable}
 use Rattle.edit_delta.proofs.Behind.{fresh_key, fresh_flag, fresh_wide}
 use Rattle.edit_delta.proofs.Below.{under, under_rising, under_has, under_none, under_gap, under_all, under_next}
@@ -100,12 +100,21 @@ pub record Stands (t : List ℕ) (r i : ℕ) : Type 0 where
 
 module _ (t m : List ℕ) (src : Source t m) where
   pub kind : (e n : ℕ) → Edited t e n → HeldKey t e n ⊎ NewKey t e n
-  kind e n (existing a b c) = inl (record { least = a; most = b; is = key_held t e n a; has = rw (key_held t e n a) (recs_has t e a b); named = c })
-  kind e n (new z a b c) =
-      let r = replica_bounds (replica_at t) src.replica in
-      let q = label_new t c src.replica in
-      let y : key_of t e n ≡ place n (new_label (decode t)) = rw z (key_new t n) in
-      inr (record { least = a; most = b; clock = c; above = omega arith; below = omega arith; is = y; label = omega arith; one = omega arith; index = z })
+  kind e n ed = go (test (eqb e 0))
+    where
+      go : (eqb e 0 ≡ true) ⊎ (eqb e 0 ≡ false) → HeldKey t e n ⊎ NewKey t e n
+      go (inl h) =
+          let z : e ≡ 0 = eqb-true e 0 h in
+          let w = ed.new z in
+          let r = replica_bounds (replica_at t) src.replica in
+          let q = label_new t w.2 src.replica in
+          let y : key_of t e n ≡ place n (new_label (decode t)) = rw z (key_new t n) in
+          inr (record { least = w.0; most = w.1; clock = w.2; above = omega arith; below = omega arith; is = y; label = omega arith; one = omega arith; index = z })
+      go (inr h) =
+          let z : e ≢ 0 = eqb-false e 0 h in
+          let a : 1 ≤ e = omega arith in
+          let w = ed.existing a in
+          inl (record { least = a; most = w.0; is = key_held t e n a; has = rw (key_held t e n a) (recs_has t e a w.0); named = w.1 })
 
   -- an own record's key lies in its relation, below the end of the chain
   pub record OwnKey (k : ℕ) : Type 0 where

@@ -1,28 +1,27 @@
 -- What the functions' steps need: words after stores, and the turns of their loops.
 -- Assumes nothing.
-use Prim.Native.Nat.{ℕ, zero, suc, ◌+◌, ◌*◌, ◌-◌, ◌≤◌, ◌<◌}
+use Prim.Native.Nat.{ℕ, ◌+◌, ◌-◌, ◌≤◌, ◌<◌}
 use mathlib.Core.Path.{◌≡◌, refl, sym, ◌∙◌, ap}
-use mathlib.Core.Bool.{Bool, true, false, ◌&&◌}
+use mathlib.Core.Bool.{Bool, false, ◌&&◌}
 use mathlib.Core.List.{List, []}
 use mathlib.Core.Logic.{◌⊎◌, inl, inr, ◌≢◌}
 use native.Mathlib.Omega.{arith}
 use native.Mathlib.Numerals.{add-one}
 use lib.Dec.{eqb}
-use lib.ListN.{length, get_or, set, length-set}
-use borrow.Author.Tests.{eqb-true, eq-eqb}
+use lib.ListN.{length, get_or, set}
+use borrow.Author.Tests.{eq-eqb}
 use Rattle.crdt.specs.Labels.{largest_counter}
 use Rattle.crdt.specs.Flags.{deleted}
 use Rattle.crdt.specs.Cells.{reg}
-use Rattle.crdt.proofs.Tests.{clash, and_left, and_right, and_both}
-use Rattle.model.specs.Layout.{fields, most_relations, most_records, delta_records, delta_words, head_words, header_words, record_words, clock_word, base, replica_at, clock_at, used_at, first_at, next_at, relation_at, label_at, flag_at}
+use Rattle.crdt.proofs.Tests.{clash, and_both}
+use Rattle.model.specs.Layout.{fields, most_relations, most_records, delta_records, head_words, clock_word, base, replica_at, clock_at, used_at, first_at, next_at, relation_at, label_at, flag_at}
 use Rattle.model.specs.Records.{place}
 use Rattle.model.specs.Tables.{record_of, decode, encode}
 use Rattle.model.specs.Edits.{new_label, new_record, flag_only, with_register}
-use Rattle.wellformed.proofs.Words.{enc_used, encode_length}
+use Rattle.wellformed.proofs.Words.{enc_used}
 use Rattle.edit_delta.specs.Picked.{draft_of}
 use Rattle.edit_record.specs.Record.{appended, marked, Steppable, stepped}
-use Rattle.edit_delta.specs.Drafting.{Source, Edited, existing, new, Ready, ReadyToInsert, ReadyToUpdate, ReadyToDelete, key_of, drafted, end_of, registered, all_registered, Findable, Found}
-use Rattle.merge_laws.proofs.Frames.{fits}
+use Rattle.edit_delta.specs.Drafting.{Source, Edited, Ready, ReadyToInsert, key_of, drafted, end_of, registered, all_registered, Findable, Found}
 use Rattle.edit_delta.proofs.Wanted.{key_of_lem}
 use Rattle.edit_delta.proofs.Steps.{cursor, cursor_at, cursor_end, Stands, HeldKey, NewKey, kind, key_held, drafted_sound, step_words, first_words_lem, next_words, relation_words, new_words, begin_drafted, end_drafted}
 use Rattle.edit_delta.proofs.Given.{source}
@@ -38,20 +37,11 @@ module _ (t m : List ℕ) (src : Source t m) (e n : ℕ) (ed : Edited t e n) whe
   unfolding drafted
   drafted_size b = refl
 
-  pub walk_length : (b : ℕ) → length (encode (drafted t (key_of t e n) m b)) ≡ delta_words
-  walk_length b = encode_length (drafted t (key_of t e n) m b) (fits _ (drafted_sound t m src e n ed b)) ∙ ap (λ (c : ℕ). header_words + record_words * c) (drafted_size b)
-
   pub walk_used : (b : ℕ) → used_at (encode (drafted t (key_of t e n) m b)) ≤ most_records
   walk_used b = omega (arith, enc_used (drafted t (key_of t e n) m b), (drafted_sound t m src e n ed b).room, drafted_size b)
 
   pub walk_room : (d : List ℕ) (b : ℕ) → d ≡ encode (drafted t (key_of t e n) m b) → used_at d ≤ most_records
   walk_room d b p = rw p (walk_used b)
-
-  pub walk_size : (d d' : List ℕ) (b : ℕ) → length d ≡ delta_words → d' ≡ encode (drafted t (key_of t e n) m b) → length d' ≡ length d
-  walk_size d d' b h p = ap length p ∙ walk_length b ∙ sym h
-
-  pub same_words_lem : (d d' : List ℕ) (b b' : ℕ) → d ≡ encode (drafted t (key_of t e n) m b) → d' ≡ encode (drafted t (key_of t e n) m b') → length d' ≡ length d
-  same_words_lem d d' b b' p q = ap length q ∙ walk_length b' ∙ sym (ap length p ∙ walk_length b)
 
   module _ (r : ℕ) (a : 1 ≤ r) (b : r ≤ most_relations) where
     pub chain_starts : (d : List ℕ) (i : ℕ) → d ≡ encode (drafted t (key_of t e n) m (place r 0)) → i ≡ first_at t r → Stands t r i × (d ≡ encode (drafted t (key_of t e n) m (cursor t r i)))
@@ -107,16 +97,6 @@ pub found_not : (d : List ℕ) (r l i : ℕ) (f : Findable d r l) (b : Bool) →
 found_not d r l i f b p q z =
     clash (and_both (eqb (relation_at d i) r) (eqb (label_at d i) l) (eq-eqb _ _ (ap (relation_at d) z ∙ f.related)) (eq-eqb _ _ (ap (label_at d) z ∙ f.labelled))) (sym p ∙ q)
 
-pub found_here : (d : List ℕ) (r l i : ℕ) (f : Findable d r l) (b : Bool) → b ≡ (eqb (relation_at d i) r && eqb (label_at d i) l) → b ≡ true → f.index ≤ i → i ≤ used_at d → Found d r l i
-found_here d r l i f b p q x y =
-    let z : (eqb (relation_at d i) r && eqb (label_at d i) l) ≡ true = sym p ∙ q in
-    record {
-      least = omega (arith, f.least);
-      most = y;
-      related = eqb-true _ _ (and_left (eqb (relation_at d i) r) (eqb (label_at d i) l) z);
-      labelled = eqb-true _ _ (and_right (eqb (relation_at d i) r) (eqb (label_at d i) l) z);
-    }
-
 -- the registers of a record
 pub registered_is : (d d₁ d₂ : List ℕ) (p j v l b : ℕ) → b ≡ base p → d₁ ≡ set d (b + head_words + j) v → d₂ ≡ set d₁ (b + head_words + fields + j) l → d₂ ≡ registered d p j (reg v l)
 unfolding registered
@@ -130,14 +110,6 @@ pub registered_next : (d d₁ d₂ : List ℕ) (p j : ℕ) (vs : List ℕ) (l : 
 unfolding all_registered
 registered_next d d₁ d₂ p j vs l e f = rw add-one (f ∙ rw e refl)
 
-pub registered_length : (n : ℕ) (d : List ℕ) (p : ℕ) (vs : List ℕ) (l : ℕ) → length (all_registered n d p vs l) ≡ length d
-unfolding all_registered registered
-registered_length zero d p vs l = refl
-registered_length (suc n) d p vs l =
-    let k = all_registered n d p vs l in
-    let g = reg (get_or vs n 0) l in
-    length-set (set k (base p + head_words + n) g.value) (base p + head_words + fields + n) g.stamp ∙ length-set k (base p + head_words + n) g.value ∙ registered_length n d p vs l
-
 -- a found record is one of few
 pub found_small : (t m : List ℕ) (src : Source t m) (e n : ℕ) (ed : Edited t e n) (d : List ℕ) (r l p : ℕ) → d ≡ encode (draft_of t (clock_at t) (flag_only fields (key_of t e n) 0) m) → Found d r l p → p ≤ most_records
 found_small t m src e n ed d r l p z f =
@@ -145,16 +117,14 @@ found_small t m src e n ed d r l p z f =
     let w = draft_sound t m src e n ed in
     omega (arith, found_within v r l p (rw z at f), w.room, w.most)
 
+-- the edited record is that of index i
+pub held_edited : (t : List ℕ) (i : ℕ) → 1 ≤ i → i ≤ used_at t → Edited t i 0
+held_edited t i a b = record { existing = λ _. (b, refl); new = λ h. absurd (omega arith) }
+
 -- the finished deltas
 module _ (s t d m : List ℕ) where
   pub insertion_edited : (r : ℕ) (vs : List ℕ) → ReadyToInsert s t d r vs m → Edited t 0 r
-  insertion_edited r vs q = new refl q.least q.most q.clock
-
-  pub update_edited : (i f : ℕ) → ReadyToUpdate s t d i f m → Edited t i 0
-  update_edited i f q = existing q.least q.most refl
-
-  pub deletion_edited : (i : ℕ) → ReadyToDelete s t d i m → Edited t i 0
-  deletion_edited i q = existing q.least q.most refl
+  insertion_edited r vs q = record { existing = λ h. absurd (omega arith); new = λ _. (q.least, q.most, q.clock) }
 
   pub insertion_findable : (r : ℕ) (vs : List ℕ) (q : ReadyToInsert s t d r vs m) (d₁ : List ℕ) (l : ℕ) → d₁ ≡ encode (draft_of t (clock_at t) (flag_only fields (key_of t 0 r) 0) m) → l ≡ new_label (decode t) → Findable d₁ r l
   insertion_findable r vs q d₁ l p z = rw (p, z) (go (kind t m src 0 r ed))
@@ -192,7 +162,7 @@ module _ (s t d m : List ℕ) where
     src = source s t d m q
 
     ed : Edited t i 0
-    ed = existing a b refl
+    ed = held_edited t i a b
 
     key_place_lem : key_of t i 0 ≡ place (relation_at t i) (label_at t i)
     key_place_lem = key_held t i 0 a ∙ key_of_lem t i

@@ -2,13 +2,13 @@
 -- Assumes nothing.
 use Rattle.std.specs.Prelude.{ℕ, zero, suc, ◌+◌, ◌-◌, ◌≤◌, ◌<◌, ◌≡◌, true, false, cond, List, eqb, ltb, length, get_or, set}
 use Rattle.crdt.specs.Labels.{largest_counter, label_of, is_replica}
-use Rattle.crdt.specs.Flags.{largest_flag, redone}
+use Rattle.crdt.specs.Flags.{largest_flag}
 use Rattle.crdt.specs.Cells.{Reg, reg}
 use Rattle.model.specs.Layout.{fields, most_relations, most_records, delta_records, delta_words, head_words, base, replica_at, clock_at, used_at, first_at, next_at, relation_at, label_at, flag_at}
 use Rattle.model.specs.Lists.{only}
 use Rattle.model.specs.Schemas.{broken}
-use Rattle.model.specs.Records.{Rec, place, relation, label, has, distinct}
-use Rattle.model.specs.Tables.{Table, record_of, decode, encode, follower}
+use Rattle.model.specs.Records.{Rec, place, relation, label, distinct}
+use Rattle.model.specs.Tables.{Table, record_of, decode, follower}
 use Rattle.model.specs.WellFormed.{well_formed}
 use Rattle.model.specs.Calls.{table_length}
 use Rattle.model.specs.Edits.{new_label, flag_only}
@@ -66,9 +66,9 @@ pub record Source (t m : List ℕ) : Type 0 where
   pub few : length (picked_keys (decode t).records m) ≤ fields
 
 -- The edited record: that of index e (n is 0), or a new one of relation n (e is 0).
-pub data Edited (t : List ℕ) (e n : ℕ) : Type 0 where
-  existing : 1 ≤ e → e ≤ used_at t → n ≡ 0 → Edited t e n
-  new : e ≡ 0 → 1 ≤ n → n ≤ most_relations → clock_at t < largest_counter → Edited t e n
+pub record Edited (t : List ℕ) (e n : ℕ) : Type 0 where
+  pub existing : 1 ≤ e → (e ≤ used_at t) × (n ≡ 0)
+  pub new : e ≡ 0 → (1 ≤ n) × (n ≤ most_relations) × (clock_at t < largest_counter)
 
 -- Its key.
 unfoldable pub key_of : List ℕ → ℕ → ℕ → ℕ
@@ -87,12 +87,6 @@ drafted t k m b =
       clock = clock_at t;
       records = only (λ (x : Rec). ltb x.key b) (wanted t k m);
     }
-
--- The walk comes to key b: the delta d has the records below it.
-pub record Walk (t m : List ℕ) (e n : ℕ) (d : List ℕ) (b : ℕ) : Type 0 where
-  pub source : Source t m
-  pub edited : Edited t e n
-  pub words : d ≡ encode (drafted t (key_of t e n) m b)
 
 -- The key above those that relation r has, and below that of a new record.
 abbrev pub end_of : List ℕ → ℕ → ℕ

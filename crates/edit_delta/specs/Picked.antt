@@ -1,6 +1,6 @@
 -- Records picked by one mark each, as an edit picks those to be redone, and the delta that it drafts of them.
 -- Assumes nothing.
-use Rattle.std.specs.Prelude.{ℕ, suc, ◌-◌, ◌≤◌, ◌≡◌, Bool, cond, List, [], ◌∷◌, eqb, get_or}
+use Rattle.std.specs.Prelude.{ℕ, ◌-◌, ◌≤◌, ◌≡◌, cond, List, [], ◌∷◌, eqb, get_or}
 use Rattle.model.specs.Layout.{fields, delta_records, used_at}
 use Rattle.model.specs.Lists.{some_of}
 use Rattle.model.specs.Records.{Rec, in_order}

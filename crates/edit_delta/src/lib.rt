@@ -9,55 +9,56 @@ ghost use Rattle.model.specs.Records.{place};
 ghost use Rattle.model.specs.Tables.{decode, encode, record_of};
 ghost use Rattle.model.specs.Edits.{new_label, new_record, flag_only, with_register};
 ghost use Rattle.edit_delta.specs.Picked.{draft_of};
-ghost use Rattle.edit_delta.specs.Drafting.{ReadyToInsert, ReadyToUpdate, ReadyToDelete, Source, Edited, key_of, Walk, drafted, end_of, registered, all_registered, Findable, Found};
+ghost use Rattle.edit_delta.specs.Drafting.{ReadyToInsert, ReadyToUpdate, ReadyToDelete, Source, Edited, key_of, drafted, end_of, registered, all_registered, Findable, Found};
 
-// Writes those of the records of a relation, in label order.
-fn draft_chain(
-    table: &[u64],
-    delta: &mut [u64],
-    relation: usize,
+// What is drafted: the edited record of a table, which is that of an index or a new one of relation `fresh`, and the records marked to be redone.
+#[derive(Clone, Copy)]
+struct Draft<'a> {
+    table: &'a [u64],
     index: usize,
     fresh: usize,
-    redo: &[u8],
-)
-    requires { Walk table.now redo.now index fresh delta.old (place relation 0) × (1 ≤ relation) × (relation ≤ most_relations) }
-    ensures { delta.new ≡ encode (drafted table.now (key_of table.now index fresh) redo.now (end_of table.now relation)) }
-{
-    let mut i = layout::first_at(table, relation);
-    while 0 < i {
-        edit_record::draft_record(table, delta, i, index, redo);
-        i = layout::next_at(table, i);
-    }
+    redo: &'a [u8],
+    ghost source: { Source table.now redo.now },
+    ghost edited: { Edited table.now index fresh },
 }
 
-// Writes those of the records of a relation, and the new one, whose label is the largest.
-fn draft_relation(
-    table: &[u64],
-    delta: &mut [u64],
-    relation: usize,
-    index: usize,
-    fresh: usize,
-    redo: &[u8],
-)
-    requires { Walk table.now redo.now index fresh delta.old (place relation 0) × (1 ≤ relation) × (relation ≤ most_relations) }
-    ensures { delta.new ≡ encode (drafted table.now (key_of table.now index fresh) redo.now (place (relation + 1) 0)) }
-{
-    draft_chain(table, delta, relation, index, fresh, redo);
-    if relation == fresh {
-        edit_record::append(delta, relation, edit_record::new_label(table), 0);
+impl Draft<'_> {
+    // Writes those of the records of a relation, in label order.
+    fn write_chain(self, delta: &mut [u64], relation: usize)
+        requires { (delta.old ≡ encode (drafted self.table.now (key_of self.table.now self.index self.fresh) self.redo.now (place relation 0))) × (1 ≤ relation) × (relation ≤ most_relations) }
+        ensures { delta.new ≡ encode (drafted self.entry.table.now (key_of self.entry.table.now self.entry.index self.entry.fresh) self.entry.redo.now (end_of self.entry.table.now relation)) }
+    {
+        let mut i = layout::first_at(self.table, relation);
+        while 0 < i {
+            edit_record::draft_record(self.table, delta, i, self.index, self.redo);
+            i = layout::next_at(self.table, i);
+        }
     }
-}
 
-// Drafts the delta with the edited record still empty: that of an index, or a new one of relation `fresh`.
-fn draft_records(table: &[u64], delta: &mut [u64], index: usize, fresh: usize, redo: &[u8])
-    requires { Source table.now redo.now × Edited table.now index fresh × (length delta.old ≡ delta_words) }
-    ensures { delta.new ≡ encode (draft_of table.now (clock_at table.now) (flag_only fields (key_of table.now index fresh) 0) redo.now) }
-{
-    edit_record::begin(delta, layout::replica(table), layout::clock(table));
-    let mut relation = 1;
-    while relation <= layout::MOST_RELATIONS {
-        draft_relation(table, delta, relation, index, fresh, redo);
-        relation += 1;
+    // Writes those of the records of a relation, and the new one, whose label is the largest.
+    fn write_relation(self, delta: &mut [u64], relation: usize)
+        requires { (delta.old ≡ encode (drafted self.table.now (key_of self.table.now self.index self.fresh) self.redo.now (place relation 0))) × (1 ≤ relation) × (relation ≤ most_relations) }
+        ensures { delta.new ≡ encode (drafted self.entry.table.now (key_of self.entry.table.now self.entry.index self.entry.fresh) self.entry.redo.now (place (relation + 1) 0)) }
+    {
+        self.write_chain(delta, relation);
+        if relation == self.fresh {
+            edit_record::append(delta, relation, edit_record::new_label(self.table), 0);
+        }
+    }
+
+    // Writes the delta with the edited record still empty.
+    fn write(self, delta: &mut [u64])
+        requires { length delta.old ≡ delta_words }
+        ensures { delta.new ≡ encode (draft_of self.entry.table.now (clock_at self.entry.table.now) (flag_only fields (key_of self.entry.table.now self.entry.index self.entry.fresh) 0) self.entry.redo.now) }
+    {
+        edit_record::begin(
+            delta,
+            layout::replica(self.table),
+            layout::clock(self.table),
+        );
+        for relation in 1..=layout::MOST_RELATIONS {
+            self.write_relation(delta, relation);
+        }
     }
 }
 
@@ -73,14 +74,16 @@ fn find(delta: &[u64], relation: usize, label: u64) -> usize
     requires { Findable delta.now relation label }
     ensures { Found delta.now relation label result }
 {
-    let mut i = layout::used(delta);
-    while !is_at(delta, i, relation, label) {
-        i -= 1;
+    for i in 1..=layout::used(delta) {
+        if is_at(delta, i, relation, label) {
+            return i;
+        }
     }
-    i
+    unreachable!()
 }
 
 // Writes a register into field `j`, counted from 0, of record `i`.
+#[tactic(auto, unfolding(model::specs::Layout::base))]
 fn write_register(delta: &mut [u64], i: usize, j: usize, value: u64, stamp: u64)
     requires { (i ≤ most_records) × (j < fields) }
     ensures { delta.new ≡ registered delta.old i j (reg value stamp) }
@@ -95,10 +98,8 @@ fn write_values(delta: &mut [u64], i: usize, values: &[u64], stamp: u64)
     requires { (i ≤ most_records) × (length values.now ≤ fields) }
     ensures { delta.new ≡ all_registered (length values.now) delta.old i values.now stamp }
 {
-    let mut j = 0;
-    while j < values.len() {
-        write_register(delta, i, j, values[j], stamp);
-        j += 1;
+    for (j, &value) in values.iter().enumerate() {
+        write_register(delta, i, j, value, stamp);
     }
 }
 
@@ -114,7 +115,13 @@ pub fn draft_insertion(
     requires { ReadyToInsert schema.now table.now delta.old relation values.now redo.now }
     ensures { delta.new ≡ encode (draft_of table.now (clock_at table.now + 1) (new_record fields (decode table.now) relation values.now) redo.now) }
 {
-    draft_records(table, delta, 0, relation, redo);
+    let draft = Draft {
+        table,
+        index: 0,
+        fresh: relation,
+        redo,
+    };
+    draft.write(delta);
     let label = edit_record::new_label(table);
     let at = find(delta, relation, label);
     write_values(delta, at, values, label);
@@ -134,7 +141,13 @@ pub fn draft_update(
     requires { ReadyToUpdate schema.now table.now delta.old index field redo.now }
     ensures { delta.new ≡ encode (draft_of table.now (clock_at table.now + 1) (with_register (flag_only fields (record_of table.now index).key 0) field (reg value (new_label (decode table.now)))) redo.now) }
 {
-    draft_records(table, delta, index, 0, redo);
+    let draft = Draft {
+        table,
+        index,
+        fresh: 0,
+        redo,
+    };
+    draft.write(delta);
     let at = find(
         delta,
         layout::relation_at(table, index),
@@ -149,7 +162,13 @@ pub fn draft_deletion(schema: &[u64], table: &[u64], delta: &mut [u64], index: u
     requires { ReadyToDelete schema.now table.now delta.old index redo.now }
     ensures { delta.new ≡ encode (draft_of table.now (clock_at table.now) (flag_only fields (record_of table.now index).key (deleted (flag_at table.now index))) redo.now) }
 {
-    draft_records(table, delta, index, 0, redo);
+    let draft = Draft {
+        table,
+        index,
+        fresh: 0,
+        redo,
+    };
+    draft.write(delta);
     let at = find(
         delta,
         layout::relation_at(table, index),

@@ -7,7 +7,6 @@ use mathlib.Core.Logic.{◌≢◌}
 use mathlib.Core.Bool.{Bool, true}
 use mathlib.Core.List.{List, ◌∷◌}
 use native.Mathlib.Omega.{arith}
-use lib.Dec.{eqb}
 use lib.ListN.{length}
 use borrow.Author.Tests.{ne_eqb}
 use Rattle.model.specs.Layout.{fields, most_records, used_at}
@@ -26,7 +25,7 @@ use Rattle.wellformed.proofs.Formed.{relations_within, schema_length_lem}
 use Rattle.wellformed.proofs.Values.{formed_valid}
 use Rattle.merge_laws.specs.Absorb.{Mergeable}
 use Rattle.merge_laws.proofs.Wholes.{valid_whole, formed_whole}
-use Rattle.references.specs.Order.{Checked}
+use Rattle.judged.specs.Checked.{Checked}
 use Rattle.references.proofs.Places.{used_most, recs_distinct}
 use Rattle.edit_delta.specs.Picked.{Picked, draft_of}
 use Rattle.edit_delta.specs.Drafting.{Ready}

@@ -1,13 +1,15 @@
 -- An accepted deletion: what its draft needs, and the words afterwards.
 -- Assumes nothing.
-use Prim.Native.Nat.{ℕ, ◌-◌, ◌≤◌}
-use mathlib.Core.Path.{◌≡◌, refl, sym, ◌∙◌, ap}
+use Prim.Native.Nat.{ℕ}
+use mathlib.Core.Path.{◌≡◌, refl, ◌∙◌, ap}
 use mathlib.Core.Logic.{◌≢◌}
 use mathlib.Core.Bool.{Bool, cond}
 use mathlib.Core.List.{List, ◌∷◌}
 use lib.Dec.{eqb}
 use lib.ListN.{length}
-use Rattle.answers.specs.Told.{Told, told}
+use Rattle.answers.specs.declared.Refusal.{Refusal}
+use Rattle.answers.specs.Refused.{refusal_number}
+use Rattle.answers.proofs.Told.{refused_above}
 use Rattle.crdt.specs.Flags.{deleted}
 use Rattle.model.specs.Layout.{fields, most_records, clock_at, flag_at}
 use Rattle.model.specs.Lists.{lowest}
@@ -15,7 +17,7 @@ use Rattle.model.specs.Schemas.{schema_of}
 use Rattle.model.specs.Records.{Rec}
 use Rattle.model.specs.Tables.{decode, encode, record_of}
 use Rattle.model.specs.Merge.{merged}
-use Rattle.model.specs.Edits.{Edit, flag_only, redoing, deletion_redoes, deletion}
+use Rattle.model.specs.Edits.{flag_only, redoing, deletion_redoes, deletion}
 use Rattle.model.specs.Calls.{bad_index, deletion_of, deletion_number, deletion_table, deletion_delta}
 use Rattle.laws.proofs.Drafts.{deletion_drafted}
 use Rattle.convergence.proofs.Tables.{narrow}
@@ -25,20 +27,19 @@ use Rattle.edit_delta.specs.Drafting.{ReadyToDelete}
 use Rattle.edit_basics.specs.Targets.{held, Placed}
 use Rattle.edit_laws.proofs.DeletionNumber.{record_here}
 use Rattle.edit_laws.specs.First.{first_number}
-use Rattle.edit_laws.proofs.First.{Entered, edit_refused, edit_judged, index_placed}
+use Rattle.edit_laws.proofs.First.{edit_refused, edit_judged, index_placed}
 use Rattle.edit_laws.proofs.Redone.{deletion_few, deletion_known, deletion_apart}
 use Rattle.edit_laws.proofs.Accepted.{checked_valid, fields_few, Planned, own_passed, accepted_entered, draft_ready, draft_mergeable, delta_written, table_written, table_kept, delta_kept}
 
 -- checks 1 to 3, then its own
 module _ (s t d : List ℕ) (i : ℕ) (bad : Bool) (b : bad ≡ bad_index t i) where
-  pub deletion_refused : {X : Type 0} (n : ℕ) → 1 ≤ n → told n 0 ≡ told (first_number bad s t d) 0 → (told n 0 ≡ told (deletion_number s t d i) 0) × (0 ≡ deletion_number s t d i → X)
+  pub deletion_refused : (x : Refusal) → refusal_number x ≡ first_number bad s t d → refusal_number x ≡ deletion_number s t d i
   unfolding deletion_number
-  deletion_refused n l h = edit_refused (bad_index t i) s t d bad b (deletion_of s t i) n l h
+  deletion_refused x h = edit_refused (bad_index t i) s t d bad b (deletion_of s t i) x h
 
-  pub deletion_judged : {X : Type 0} → told 0 0 ≡ told (first_number bad s t d) 0 → (k : Told) → k ≡ told (lowest (deletion_of s t i).checks) 0 → (lowest (deletion_of s t i).checks ≡ 0 → X)
-      → (k ≡ told (deletion_number s t d i) 0) × (0 ≡ deletion_number s t d i → X)
+  pub deletion_judged : 0 ≡ first_number bad s t d → lowest (deletion_of s t i).checks ≡ deletion_number s t d i
   unfolding deletion_number
-  deletion_judged h k q f = edit_judged (bad_index t i) s t d bad b (deletion_of s t i) h k q f
+  deletion_judged h = edit_judged (bad_index t i) s t d bad b (deletion_of s t i) h
 
 -- the changed record and the redone ones
 abbrev x : List ℕ → ℕ → Rec
@@ -105,17 +106,9 @@ module _ (s t d : List ℕ) (i : ℕ) (z : 0 ≡ deletion_number s t d i) (m : L
     unfolding deletion_table deletion_number
     deletion_done u g = table_written (bad_index t i) s t d (deletion_of s t i) z (x t i) (redoes s t i) plan m p l w drawn u g
 
--- as the answer tells it
-module _ (s t d : List ℕ) (i : ℕ) (k : Told) (a : k ≡ told (deletion_number s t d i) 0) (n : ℕ) (e : n ≡ k.number) where
-  number_told : n ≡ deletion_number s t d i
-  number_told = e ∙ ap (λ (x : Told). x.number) a
-
-  pub deletion_accepted : n ≡ 0 → 0 ≡ deletion_number s t d i
-  deletion_accepted h = sym h ∙ number_told
-
-  -- a refusal changes no word
-  pub deletion_kept : n ≢ 0 → (t ≡ deletion_table s t d i) × (d ≡ deletion_delta s t d i)
-  unfolding deletion_table deletion_delta
-  deletion_kept h =
-      let r : deletion_number s t d i ≢ 0 = λ z. h (number_told ∙ z) in
-      (table_kept (deletion_number s t d i) t d (deletion_of s t i) r, delta_kept (deletion_number s t d i) t d (deletion_of s t i) r)
+-- a refusal changes no word
+pub deletion_kept : (s t d : List ℕ) (i : ℕ) (x : Refusal) → refusal_number x ≡ deletion_number s t d i → (t ≡ deletion_table s t d i) × (d ≡ deletion_delta s t d i)
+unfolding deletion_table deletion_delta
+deletion_kept s t d i x h =
+    let r : deletion_number s t d i ≢ 0 = λ z. refused_above x (h ∙ z) in
+    (table_kept (deletion_number s t d i) t d (deletion_of s t i) r, delta_kept (deletion_number s t d i) t d (deletion_of s t i) r)

@@ -1,13 +1,16 @@
 -- An accepted insertion: what its draft needs, its label, and the words afterwards.
 -- Assumes nothing.
-use Prim.Native.Nat.{ℕ, ◌+◌, ◌≤◌, ◌<◌}
+use Prim.Native.Nat.{ℕ, ◌+◌, ◌<◌}
 use mathlib.Core.Path.{◌≡◌, refl, sym, ◌∙◌, ap}
 use mathlib.Core.Logic.{◌≢◌}
 use mathlib.Core.Bool.{false}
 use mathlib.Core.List.{List}
 use lib.ListN.{length}
 use borrow.Author.Tests.{ne_eqb}
-use Rattle.answers.specs.Told.{Told, told}
+use Rattle.answers.specs.declared.Refusal.{Refusal}
+use Rattle.answers.specs.Refused.{refusal_number}
+use Rattle.answers.proofs.Told.{refused_above}
+use Rattle.answers.specs.Told.{told}
 use Rattle.crdt.specs.Labels.{largest_counter}
 use Rattle.model.specs.Layout.{fields, most_records, clock_at}
 use Rattle.model.specs.Lists.{lowest}
@@ -20,29 +23,25 @@ use Rattle.model.specs.Calls.{insertion_of, insertion_number, insertion_label, i
 use Rattle.laws.proofs.Drafts.{insertion_drafted}
 use Rattle.convergence.proofs.Tables.{narrow}
 use Rattle.merge_laws.specs.Absorb.{Mergeable}
-use Rattle.references.specs.Order.{Checked}
+use Rattle.judged.specs.Checked.{Checked}
 use Rattle.edit_delta.specs.Picked.{Picked, draft_of}
 use Rattle.edit_delta.specs.Drafting.{ReadyToInsert}
 use Rattle.edit_basics.specs.Targets.{kinds_of, bare, held}
 use Rattle.edit_laws.proofs.InsertionNumber.{Accepted, accepted}
 use Rattle.edit_laws.specs.First.{first_number}
-use Rattle.edit_laws.proofs.First.{edit_refused, edit_judged, edit_entered}
+use Rattle.edit_laws.proofs.First.{edit_refused, edit_judged}
 use Rattle.edit_laws.proofs.Redone.{odd_known, insertion_few}
 use Rattle.edit_laws.proofs.Accepted.{checked_valid, fields_few, Planned, own_passed, accepted_entered, draft_ready, draft_mergeable, delta_written, table_written, table_kept, delta_kept}
 
 -- checks 1 to 3, then its own
 module _ (s t d : List ℕ) (r : ℕ) (vs : List ℕ) where
-  pub insertion_refused : {X : Type 0} (n : ℕ) → 1 ≤ n → told n 0 ≡ told (first_number false s t d) 0 → (told n 0 ≡ told (insertion_number s t d r vs) 0) × (0 ≡ insertion_number s t d r vs → X)
+  pub insertion_refused : (x : Refusal) → refusal_number x ≡ first_number false s t d → refusal_number x ≡ insertion_number s t d r vs
   unfolding insertion_number
-  insertion_refused n l h = edit_refused false s t d false refl (insertion_of s t r vs) n l h
+  insertion_refused x h = edit_refused false s t d false refl (insertion_of s t r vs) x h
 
-  pub insertion_judged : {X : Type 0} → told 0 0 ≡ told (first_number false s t d) 0 → (k : Told) → k ≡ told (lowest (insertion_of s t r vs).checks) 0 → (lowest (insertion_of s t r vs).checks ≡ 0 → X)
-      → (k ≡ told (insertion_number s t d r vs) 0) × (0 ≡ insertion_number s t d r vs → X)
+  pub insertion_judged : 0 ≡ first_number false s t d → lowest (insertion_of s t r vs).checks ≡ insertion_number s t d r vs
   unfolding insertion_number
-  insertion_judged h k q f = edit_judged false s t d false refl (insertion_of s t r vs) h k q f
-
-pub told_checked : (s t d : List ℕ) → told 0 0 ≡ told (first_number false s t d) 0 → Checked s t
-told_checked s t d h = (edit_entered false s t d false refl h).checked
+  insertion_judged h = edit_judged false s t d false refl (insertion_of s t r vs) h
 
 -- the redone records
 abbrev redoes : List ℕ → List ℕ → ℕ → List ℕ → List ℕ
@@ -115,23 +114,15 @@ module _ (s t d : List ℕ) (r : ℕ) (vs : List ℕ) (z : 0 ≡ insertion_numbe
       unfolding insertion_table insertion_number
       insertion_done u g = table_written false s t d (insertion_of s t r vs) z (new_record fields (decode t) r vs) (redoes s t r vs) plan m p l w drawn u g
 
--- as the answer tells it
-module _ (s t d : List ℕ) (r : ℕ) (vs : List ℕ) (k : Told) (a : k ≡ told (insertion_number s t d r vs) 0) (n : ℕ) (e : n ≡ k.number) where
-  number_told : n ≡ insertion_number s t d r vs
-  number_told = e ∙ ap (λ (x : Told). x.number) a
+-- a refusal changes no word, and its label is 0
+module _ (s t d : List ℕ) (r : ℕ) (vs : List ℕ) (x : Refusal) (h : refusal_number x ≡ insertion_number s t d r vs) where
+  refused : insertion_number s t d r vs ≢ 0
+  refused z = refused_above x (h ∙ z)
 
-  pub insertion_accepted : n ≡ 0 → 0 ≡ insertion_number s t d r vs
-  insertion_accepted h = sym h ∙ number_told
+  pub insertion_unlabelled : told (refusal_number x) 0 ≡ told (insertion_number s t d r vs) (insertion_label s t d r vs)
+  unfolding insertion_label
+  insertion_unlabelled = ap (λ n. told n 0) h ∙ rw (ne_eqb (insertion_number s t d r vs) 0 refused)
 
-  -- a refusal changes no word, and its label is 0
-  module _ (h : n ≢ 0) where
-    refused : insertion_number s t d r vs ≢ 0
-    refused z = h (number_told ∙ z)
-
-    pub insertion_unlabelled : k ≡ told (insertion_number s t d r vs) (insertion_label s t d r vs)
-    unfolding insertion_label
-    insertion_unlabelled = a ∙ rw (ne_eqb (insertion_number s t d r vs) 0 refused)
-
-    pub insertion_kept : (t ≡ insertion_table s t d r vs) × (d ≡ insertion_delta s t d r vs)
-    unfolding insertion_table insertion_delta
-    insertion_kept = (table_kept (insertion_number s t d r vs) t d (insertion_of s t r vs) refused, delta_kept (insertion_number s t d r vs) t d (insertion_of s t r vs) refused)
+  pub insertion_kept : (t ≡ insertion_table s t d r vs) × (d ≡ insertion_delta s t d r vs)
+  unfolding insertion_table insertion_delta
+  insertion_kept = (table_kept (insertion_number s t d r vs) t d (insertion_of s t r vs) refused, delta_kept (insertion_number s t d r vs) t d (insertion_of s t r vs) refused)

@@ -1,15 +1,17 @@
 -- An accepted update: what its draft needs, and the words afterwards.
 -- Assumes nothing.
 use Prim.Native.Nat.{ℕ, ◌+◌, ◌-◌, ◌≤◌, ◌<◌}
-use mathlib.Core.Path.{◌≡◌, refl, sym, ◌∙◌, ap}
+use mathlib.Core.Path.{◌≡◌, refl, ◌∙◌, ap}
 use mathlib.Core.Logic.{◌≢◌}
-use mathlib.Core.Bool.{Bool, true, false, not, ◌&&◌}
+use mathlib.Core.Bool.{Bool, ◌&&◌}
 use mathlib.Core.List.{List, ◌∷◌}
 use native.Mathlib.Omega.{arith}
-use lib.Dec.{eqb, leb}
+use lib.Dec.{leb}
 use lib.ListN.{length, get_or}
 use borrow.Author.Tests.{eqb-false, leb-true, not-false}
-use Rattle.answers.specs.Told.{Told, told}
+use Rattle.answers.specs.declared.Refusal.{Refusal}
+use Rattle.answers.specs.Refused.{refusal_number}
+use Rattle.answers.proofs.Told.{refused_above}
 use Rattle.crdt.specs.Labels.{largest_counter}
 use Rattle.crdt.specs.Cells.{Reg, reg, no_reg}
 use Rattle.crdt.proofs.Tests.{and_left, and_right}
@@ -17,12 +19,11 @@ use Rattle.model.specs.Layout.{fields, most_records, clock_at, relation_at, valu
 use Rattle.model.specs.Lists.{all_of, lowest}
 use Rattle.model.specs.Schemas.{schema_of}
 use Rattle.model.specs.Records.{Rec}
-use Rattle.model.specs.Tables.{Table, decode, encode, record_of}
+use Rattle.model.specs.Tables.{decode, encode, record_of}
 use Rattle.model.specs.Shown.{described}
 use Rattle.model.specs.Merge.{merged}
-use Rattle.model.specs.Edits.{Edit, new_label, value_rule, flag_only, with_register, register_at, redoing, record_at, update_redoes, update}
+use Rattle.model.specs.Edits.{new_label, value_rule, flag_only, with_register, register_at, redoing, record_at, update_redoes, update}
 use Rattle.model.specs.Calls.{bad_index, update_of, update_number, update_table, update_delta}
-use Rattle.laws.proofs.Valid.{Valid}
 use Rattle.laws.proofs.Checks.{passed}
 use Rattle.laws.proofs.Drafts.{update_drafted}
 use Rattle.wellformed.proofs.Ranges.{listed_at, listed_length}
@@ -35,20 +36,19 @@ use Rattle.edit_basics.specs.Targets.{held, Placed}
 use Rattle.edit_laws.proofs.Clash.{kinds_here}
 use Rattle.edit_laws.proofs.DeletionNumber.{record_here}
 use Rattle.edit_laws.specs.First.{first_number}
-use Rattle.edit_laws.proofs.First.{Entered, edit_refused, edit_judged, index_placed}
+use Rattle.edit_laws.proofs.First.{edit_refused, edit_judged, index_placed}
 use Rattle.edit_laws.proofs.Redone.{update_few, update_known}
 use Rattle.edit_laws.proofs.Accepted.{checked_valid, fields_few, Planned, own_passed, accepted_entered, draft_ready, draft_mergeable, delta_written, table_written, table_kept, delta_kept}
 
 -- checks 1 to 3, then its own
 module _ (s t d : List ℕ) (i f new : ℕ) (bad : Bool) (b : bad ≡ bad_index t i) where
-  pub update_refused : {X : Type 0} (n : ℕ) → 1 ≤ n → told n 0 ≡ told (first_number bad s t d) 0 → (told n 0 ≡ told (update_number s t d i f new) 0) × (0 ≡ update_number s t d i f new → X)
+  pub update_refused : (x : Refusal) → refusal_number x ≡ first_number bad s t d → refusal_number x ≡ update_number s t d i f new
   unfolding update_number
-  update_refused n l h = edit_refused (bad_index t i) s t d bad b (update_of s t i f new) n l h
+  update_refused x h = edit_refused (bad_index t i) s t d bad b (update_of s t i f new) x h
 
-  pub update_judged : {X : Type 0} → told 0 0 ≡ told (first_number bad s t d) 0 → (k : Told) → k ≡ told (lowest (update_of s t i f new).checks) 0 → (lowest (update_of s t i f new).checks ≡ 0 → X)
-      → (k ≡ told (update_number s t d i f new) 0) × (0 ≡ update_number s t d i f new → X)
+  pub update_judged : 0 ≡ first_number bad s t d → lowest (update_of s t i f new).checks ≡ update_number s t d i f new
   unfolding update_number
-  update_judged h k q g = edit_judged (bad_index t i) s t d bad b (update_of s t i f new) h k q g
+  update_judged h = edit_judged (bad_index t i) s t d bad b (update_of s t i f new) h
 
 -- what its own checks say of the field and of the clock
 record Fielded (s t : List ℕ) (i f : ℕ) : Type 0 where
@@ -159,17 +159,9 @@ module _ (s t d : List ℕ) (i f new : ℕ) (z : 0 ≡ update_number s t d i f n
     unfolding update_table update_number
     update_done u g = table_written (bad_index t i) s t d (update_of s t i f new) z (x t i f new) (redoes s t i f new) plan m p l w drawn u g
 
--- as the answer tells it
-module _ (s t d : List ℕ) (i f new : ℕ) (k : Told) (a : k ≡ told (update_number s t d i f new) 0) (n : ℕ) (e : n ≡ k.number) where
-  number_told : n ≡ update_number s t d i f new
-  number_told = e ∙ ap (λ (x : Told). x.number) a
-
-  pub update_accepted : n ≡ 0 → 0 ≡ update_number s t d i f new
-  update_accepted h = sym h ∙ number_told
-
-  -- a refusal changes no word
-  pub update_kept : n ≢ 0 → (t ≡ update_table s t d i f new) × (d ≡ update_delta s t d i f new)
-  unfolding update_table update_delta
-  update_kept h =
-      let r : update_number s t d i f new ≢ 0 = λ z. h (number_told ∙ z) in
-      (table_kept (update_number s t d i f new) t d (update_of s t i f new) r, delta_kept (update_number s t d i f new) t d (update_of s t i f new) r)
+-- a refusal changes no word
+pub update_kept : (s t d : List ℕ) (i f new : ℕ) (x : Refusal) → refusal_number x ≡ update_number s t d i f new → (t ≡ update_table s t d i f new) × (d ≡ update_delta s t d i f new)
+unfolding update_table update_delta
+update_kept s t d i f new x h =
+    let r : update_number s t d i f new ≢ 0 = λ z. refused_above x (h ∙ z) in
+    (table_kept (update_number s t d i f new) t d (update_of s t i f new) r, delta_kept (update_number s t d i f new) t d (update_of s t i f new) r)

@@ -20,7 +20,8 @@ use Rattle.model.specs.Shown.{described, value, rest, equal_on, conflict_on, con
 use Rattle.laws.proofs.Shown.{standing_in}
 use Rattle.wellformed.proofs.ListRanges.{map_from, span}
 use Rattle.wellformed.proofs.Values.{kinds_of_lem}
-use Rattle.references.specs.Order.{Checked, key_at}
+use Rattle.judged.specs.Checked.{Checked}
+use Rattle.references.specs.Order.{key_at}
 use Rattle.references.specs.Resolved.{Marked}
 use Rattle.references.proofs.Places.{key_relation, relation_least, relation_known}
 use Rattle.marks.specs.Marks.{is_marked}

@@ -1,24 +1,22 @@
 -- The number of a deletion of a judged table.
 -- Assumes nothing.
-use Prim.Native.Nat.{ℕ, ◌≤◌}
+use Prim.Native.Nat.{ℕ}
 use mathlib.Core.Path.{◌≡◌, refl, sym, ◌∙◌, ap}
 use mathlib.Core.Bool.{Bool, true, false, cond, ◌&&◌, not}
 use mathlib.Core.List.{List}
-use native.Mathlib.Omega.{arith}
 use lib.Dec.{eqb}
 use borrow.Author.Tests.{eq-eqb, ne_eqb}
-use Rattle.answers.specs.Told.{Told, told}
-use Rattle.model.specs.Layout.{fields, used_at}
-use Rattle.model.specs.Lists.{listed, some_of, lowest}
+use Rattle.model.specs.Layout.{used_at}
+use Rattle.model.specs.Lists.{some_of, lowest}
 use Rattle.model.specs.Schemas.{is_abort, schema_of}
 use Rattle.model.specs.Records.{Rec, has}
 use Rattle.model.specs.Tables.{decode, record_of}
 use Rattle.model.specs.Shown.{references, standing, shown}
-use Rattle.model.specs.Edits.{Edit, record_at, spent, deletion_redoes, deletion}
+use Rattle.model.specs.Edits.{record_at, spent, deletion_redoes, deletion}
 use Rattle.model.specs.Calls.{deletion_of}
 use Rattle.laws.proofs.Drafts.{shown_in}
 use Rattle.wellformed.proofs.Ranges.{listed_at}
-use Rattle.references.specs.Order.{Checked, key_at}
+use Rattle.references.specs.Order.{key_at}
 use Rattle.references.specs.Resolved.{Marked}
 use Rattle.marks.specs.Marks.{is_marked}
 use Rattle.edit_basics.specs.Targets.{held, Placed}
@@ -78,27 +76,27 @@ module _ (s t : List ℕ) (i : ℕ) (o : Placed s t i) where
     A-is : a ≡ A
     A-is = ea ∙ shown_mark s t m i o mk
 
-    pub deletion_hidden : a ≡ false → told 6 0 ≡ told number 0
-    deletion_hidden h = let k : A ≡ false = sym A-is ∙ h in ap (λ n. told n 0) (sym (number_is ∙ rw k))
+    pub deletion_hidden : a ≡ false → 6 ≡ number
+    deletion_hidden h = let k : A ≡ false = sym A-is ∙ h in sym (number_is ∙ rw k)
 
     module _ (h : a ≡ true) (b : Bool) (eb : b ≡ B) where
-      pub deletion_referenced : b ≡ true → told 10 0 ≡ told number 0
+      pub deletion_referenced : b ≡ true → 10 ≡ number
       deletion_referenced g =
           let k : A ≡ true = sym A-is ∙ h in
           let l : B ≡ true = sym eb ∙ g in
-          ap (λ n. told n 0) (sym (number_is ∙ rw (k, l)))
+          sym (number_is ∙ rw (k, l))
 
       module _ (g : b ≡ false) (d : Bool) (ed : d ≡ D) where
-        pub deletion_spent : d ≡ true → told 13 0 ≡ told number 0
+        pub deletion_spent : d ≡ true → 13 ≡ number
         deletion_spent f =
             let k : A ≡ true = sym A-is ∙ h in
             let l : B ≡ false = sym eb ∙ g in
             let n : D ≡ true = sym ed ∙ f in
-            ap (λ n. told n 0) (sym (number_is ∙ rw (k, l, n)))
+            sym (number_is ∙ rw (k, l, n))
 
-        pub deletion_done : d ≡ false → told 0 0 ≡ told number 0
+        pub deletion_done : d ≡ false → 0 ≡ number
         deletion_done f =
             let k : A ≡ true = sym A-is ∙ h in
             let l : B ≡ false = sym eb ∙ g in
             let n : D ≡ false = sym ed ∙ f in
-            ap (λ n. told n 0) (sym (number_is ∙ rw (k, l, n)))
+            sym (number_is ∙ rw (k, l, n))

@@ -1,6 +1,6 @@
 -- Checks 1 to 3, then the edit's own: the number of an edit, and what is known where none of the first applies.
 -- Assumes nothing.
-use Prim.Native.Nat.{ℕ, ◌≤◌}
+use Prim.Native.Nat.{ℕ}
 use mathlib.Core.Path.{◌≡◌, refl, sym, ◌∙◌, ap}
 use mathlib.Core.Logic.{◌⊎◌, inl, inr, ◌≢◌}
 use mathlib.Core.Bool.{Bool, true, false, cond, ◌||◌, ◌&&◌, not}
@@ -8,8 +8,12 @@ use mathlib.Core.List.{List, [], ◌∷◌}
 use native.Mathlib.Omega.{arith}
 use lib.Dec.{eqb, ltb}
 use lib.ListN.{length}
-use borrow.Author.Tests.{eqb-true, eqb-false, ne_eqb, ltb-false, not-true, not-false}
-use Rattle.answers.specs.Told.{Told, told}
+use borrow.Author.Tests.{eqb-true, eqb-false, ne_eqb, ltb-false, not-false}
+use Rattle.answers.specs.declared.Refusal.{Refusal}
+use Rattle.std.specs.Prelude.{Result, Ok, Err}
+use Rattle.std.specs.Result.{IsErrAnd}
+use Rattle.answers.specs.Refused.{refusal_number, number_of}
+use Rattle.answers.proofs.Told.{refused_above}
 use Rattle.crdt.proofs.Tests.{test, and_left, and_right}
 use Rattle.model.specs.Layout.{delta_words, capacity_of, used_at}
 use Rattle.model.specs.Lists.{all_of, Check, check, lowest}
@@ -18,7 +22,7 @@ use Rattle.model.specs.WellFormed.{well_formed}
 use Rattle.model.specs.Edits.{Edit}
 use Rattle.model.specs.Calls.{schema_length, table_length, delta_length, bad_index, edit_number}
 use Rattle.laws.proofs.Checks.{passed}
-use Rattle.references.specs.Order.{Checked}
+use Rattle.judged.specs.Checked.{Checked}
 use Rattle.edit_basics.specs.Targets.{Placed}
 use Rattle.edit_laws.specs.First.{first_number}
 
@@ -81,22 +85,24 @@ module _ (index : Bool) (s t d : List ℕ) where
         placed = or_second (not (schema_length s && table_length t && delta_length d)) index p.0;
       }
 
--- as the code reads them: a number told, of an index that is found bad or not
+-- what `?` hands on of a refusal has its number
+pub handed_number : {A : Type 0} (r : Result A Refusal) (e : Refusal) → IsErrAnd r (λ x. x ≡ e) → number_of r ≡ refusal_number e
+handed_number (Ok v) e h = absurd h
+handed_number (Err x) e h = ap refusal_number h
+
+-- as the code reads them: of an index that is found bad or not, and of a refusal that the first checks answer
 module _ (index : Bool) (s t d : List ℕ) (bad : Bool) (b : bad ≡ index) where
-  first_told : (n : ℕ) → told n 0 ≡ told (first_number bad s t d) 0 → n ≡ first_number index s t d
-  first_told n h = ap (λ (k : Told). k.number) h ∙ ap (λ (i : Bool). first_number i s t d) b
+  first_is : (n : ℕ) → n ≡ first_number bad s t d → n ≡ first_number index s t d
+  first_is n h = h ∙ ap (λ (i : Bool). first_number i s t d) b
 
-  pub edit_refused : {X : Type 0} (e : Edit) (n : ℕ) → 1 ≤ n → told n 0 ≡ told (first_number bad s t d) 0 → (told n 0 ≡ told (edit_number index s t d e) 0) × (0 ≡ edit_number index s t d e → X)
-  edit_refused e n l h =
-      let q : n ≡ edit_number index s t d e = number_first index s t d e n (first_told n h) (λ z. omega arith) in
-      (ap (λ k. told k 0) q, λ z. absurd (omega arith))
+  pub edit_refused : (e : Edit) (x : Refusal) → refusal_number x ≡ first_number bad s t d → refusal_number x ≡ edit_number index s t d e
+  edit_refused e x h = number_first index s t d e (refusal_number x) (first_is (refusal_number x) h) (refused_above x)
 
-  pub edit_judged : {X : Type 0} (e : Edit) → told 0 0 ≡ told (first_number bad s t d) 0 → (k : Told) → k ≡ told (lowest e.checks) 0 → (lowest e.checks ≡ 0 → X)
-      → (k ≡ told (edit_number index s t d e) 0) × (0 ≡ edit_number index s t d e → X)
-  edit_judged e h k q f = let o = number_own index s t d e (first_told 0 h) in (q ∙ ap (λ n. told n 0) o, λ z. f (o ∙ sym z))
+  pub edit_judged : (e : Edit) → 0 ≡ first_number bad s t d → lowest e.checks ≡ edit_number index s t d e
+  edit_judged e h = number_own index s t d e (first_is 0 h)
 
-  pub edit_entered : told 0 0 ≡ told (first_number bad s t d) 0 → Entered index s t d
-  edit_entered h = entered index s t d (first_told 0 h)
+  pub edit_entered : 0 ≡ first_number bad s t d → Entered index s t d
+  edit_entered h = entered index s t d (first_is 0 h)
 
 -- a record index that is not bad is that of a record
 pub index_placed : (s t : List ℕ) (i : ℕ) → Checked s t → bad_index t i ≡ false → Placed s t i
@@ -112,33 +118,15 @@ module _ (bad : Bool) (s t d : List ℕ) (ls lt ld : Bool) (es : ls ≡ schema_l
   unfolding first_number lowest
   number_first_is = rw (es, et, ed)
 
-  pub first_length : (not (ls && lt && ld) || bad) ≡ true → told 1 0 ≡ told (first_number bad s t d) 0
-  first_length h = ap (λ n. told n 0) (sym (number_first_is ∙ rw h))
+  pub first_length : (not (ls && lt && ld) || bad) ≡ true → 1 ≡ first_number bad s t d
+  first_length h = sym (number_first_is ∙ rw h)
 
-  module _ (h : (not (ls && lt && ld) || bad) ≡ false) (b : Bool) (eb : b ≡ broken s) where
-    pub first_schema : b ≡ true → told 2 0 ≡ told (first_number bad s t d) 0
-    first_schema g = let k : broken s ≡ true = sym eb ∙ g in ap (λ n. told n 0) (sym (number_first_is ∙ rw (h, k)))
+  pub first_judged : (not (ls && lt && ld) || bad) ≡ false → lowest (check 2 (broken s) ∷ check 3 (not (well_formed s t)) ∷ []) ≡ first_number bad s t d
+  unfolding lowest
+  first_judged h = sym (number_first_is ∙ rw h)
 
-    module _ (g : b ≡ false) where
-      pub first_lengths : (schema_length s ≡ true) × (table_length t ≡ true) × (broken s ≡ false)
-      first_lengths =
-          let l = not-false (ls && lt && ld) (or_first (not (ls && lt && ld)) bad h) in
-          let k = and_left (ls && lt) ld l in
-          (sym es ∙ and_left ls lt k, sym et ∙ and_right ls lt k, sym eb ∙ g)
-
-      module _ (w : Bool) (ew : w ≡ well_formed s t) where
-        pub first_table : not w ≡ true → told 3 0 ≡ told (first_number bad s t d) 0
-        first_table f =
-            let k : broken s ≡ false = sym eb ∙ g in
-            let z : well_formed s t ≡ false = sym ew ∙ not-true w f in
-            ap (λ n. told n 0) (sym (number_first_is ∙ rw (h, k, z)))
-
-        pub first_good : not w ≡ false → told 0 0 ≡ told (first_number bad s t d) 0
-        first_good f =
-            let k : broken s ≡ false = sym eb ∙ g in
-            let z : well_formed s t ≡ true = sym ew ∙ not-false w f in
-            ap (λ n. told n 0) (sym (number_first_is ∙ rw (h, k, z)))
-
--- checks 1 to 3 of an update or a deletion
-pub told_placed : (s t d : List ℕ) (i : ℕ) (bad : Bool) → bad ≡ bad_index t i → told 0 0 ≡ told (first_number bad s t d) 0 → Placed s t i
-told_placed s t d i bad b h = let n = edit_entered (bad_index t i) s t d bad b h in index_placed s t i n.checked n.placed
+-- checks 1 to 3 of an update or a deletion, whose schema and table come back judged
+pub first_placed : (s t d : List ℕ) (i : ℕ) (bad : Bool) → bad ≡ bad_index t i → 0 ≡ first_number bad s t d → (s' t' : List ℕ) → t' ≡ t → Checked s' t' → Placed s' t' i
+first_placed s t d i bad b h s' t' e c =
+    let n = edit_entered (bad_index t i) s t d bad b h in
+    index_placed s' t' i c (ap (λ (z : List ℕ). bad_index z i) e ∙ n.placed)

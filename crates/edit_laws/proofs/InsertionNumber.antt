@@ -1,37 +1,36 @@
 -- The number of an insertion into a judged table, and its key conflicts by position.
 -- Assumes nothing.
-use Prim.Native.Nat.{ℕ, zero, suc, ◌+◌, ◌-◌, ◌/◌, ◌≤◌, ◌<◌}
+use Prim.Native.Nat.{ℕ, zero, suc, ◌+◌, ◌-◌, ◌≤◌, ◌<◌}
 use mathlib.Core.Path.{◌≡◌, refl, sym, ◌∙◌, ap}
 use mathlib.Core.Logic.{◌⊎◌, inl, inr}
 use mathlib.Core.Bool.{Bool, true, false, cond, ◌||◌, ◌&&◌, not}
-use mathlib.Core.List.{List, [], ◌∷◌, ◌++◌, map}
+use mathlib.Core.List.{List, [], ◌∷◌}
 use native.Mathlib.Omega.{arith}
 use lib.Dec.{eqb, leb}
 use lib.ListN.{length, get_or, set, replicate}
 use lib.Seq.{ext_get_or, get_or-set_same, get_or-set_other}
 use borrow.Author.Tests.{eqb-true, eqb-false, eq-eqb, ne_eqb, leb-true, le-leb, lt-leb, not-false as unnot}
-use Rattle.answers.specs.Told.{Told, told}
 use Rattle.crdt.specs.Labels.{largest_counter, largest_replica, label_of, is_counter, is_replica, no_label, label_within}
-use Rattle.crdt.specs.Cells.{Reg, reg, no_reg, Cell}
+use Rattle.crdt.specs.Cells.{Reg, no_reg}
 use Rattle.crdt.proofs.Tests.{test, and_left, and_right, Tri, low, same, high, tri}
-use Rattle.model.specs.Layout.{fields, most_relations, relations, field_count, kind_at, mask_at, capacity_of, replica_at, clock_at, used_at, relation_at}
+use Rattle.model.specs.Layout.{fields, most_relations, relations, field_count, mask_at, capacity_of, clock_at, used_at, relation_at}
 use Rattle.model.specs.Lists.{some_of, all_of, Check, check, lowest}
 use Rattle.model.specs.Schemas.{Relation, no_relation, is_reference, relation_of, schema_of, relation_numbered}
 use Rattle.model.specs.Records.{Rec, label_span, relation, has}
-use Rattle.model.specs.Tables.{Table, decode, record_of}
+use Rattle.model.specs.Tables.{decode, record_of}
 use Rattle.model.specs.Shown.{described, leads, targets, conflict_on, conflict, standing, shown}
-use Rattle.model.specs.Edits.{Edit, new_label, values_rule, new_record, odd, redoing, spent, insertion}
+use Rattle.model.specs.Edits.{new_label, values_rule, new_record, odd, redoing, spent, insertion}
 use Rattle.model.specs.Calls.{insertion_of}
 use Rattle.laws.proofs.Checks.{passed}
 use Rattle.laws.proofs.Fields.{place_relation, stamped_by, stamped_length, values_length}
-use Rattle.wellformed.proofs.Ranges.{listed_at, listed_length}
+use Rattle.wellformed.proofs.Ranges.{listed_at}
 use Rattle.wellformed.proofs.Formed.{schema_length_lem}
 use Rattle.wellformed.proofs.Facts.{SoundSchema, schema_sound, Formed, formed}
-use Rattle.references.specs.Order.{Checked}
+use Rattle.judged.specs.Checked.{Checked}
 use Rattle.references.proofs.Places.{key_relation, recs_length}
 use Rattle.list_conflicts.specs.Keys.{values_conflict, values_at}
 use Rattle.list_conflicts.proofs.Keys.{first_mask, second_mask}
-use Rattle.edit_basics.specs.Targets.{kinds_of, bare, held, Placed}
+use Rattle.edit_basics.specs.Targets.{kinds_of, bare, held}
 use Rattle.edit_basics.proofs.Values.{values_fit, leads_stamped}
 use Rattle.edit_laws.specs.Clash.{clashes, Padded}
 use Rattle.edit_laws.proofs.Clash.{values_of, conflict_on_lem}
@@ -83,11 +82,8 @@ pad_more vs out n x l h e k b = go (tri k n)
 abbrev pub later : List ℕ → List ℕ → ℕ → List ℕ → List Check
 later s t r vs = check 11 (eqb (used_at t) (capacity_of t)) ∷ check 12 (eqb (clock_at t) largest_counter) ∷ check 13 (spent (held t) (odd (held t) (leads is_reference (kinds_of s r) (bare vs)))) ∷ []
 
-pub told_as : (a : Told) (n m : ℕ) → a ≡ told n 0 → m ≡ n → a ≡ told m 0
-told_as a n m e h = rw h e
-
 module _ (s t : List ℕ) (r : ℕ) (vs : List ℕ) (u m : ℕ) (eu : u ≡ used_at t) (em : m ≡ capacity_of t) where
-  pub room_full : u ≡ m → told 11 0 ≡ told (lowest (later s t r vs)) 0
+  pub room_full : u ≡ m → 11 ≡ lowest (later s t r vs)
   unfolding lowest
   room_full h = rw (eq-eqb (used_at t) (capacity_of t) (sym eu ∙ h ∙ em))
 
@@ -95,7 +91,7 @@ module _ (s t : List ℕ) (r : ℕ) (vs : List ℕ) (u m : ℕ) (eu : u ≡ used
     unfilled : eqb (used_at t) (capacity_of t) ≡ false
     unfilled = ne_eqb (used_at t) (capacity_of t) (λ z. h (eu ∙ z ∙ sym em))
 
-    pub room_clock : k ≡ largest_counter → told 12 0 ≡ told (lowest (later s t r vs)) 0
+    pub room_clock : k ≡ largest_counter → 12 ≡ lowest (later s t r vs)
     unfolding lowest
     room_clock q = rw (unfilled, eq-eqb (clock_at t) largest_counter (sym ek ∙ q))
 
@@ -103,11 +99,11 @@ module _ (s t : List ℕ) (r : ℕ) (vs : List ℕ) (u m : ℕ) (eu : u ≡ used
       unspent : eqb (clock_at t) largest_counter ≡ false
       unspent = ne_eqb (clock_at t) largest_counter (λ z. q (ek ∙ z))
 
-      pub room_spent : d ≡ true → told 13 0 ≡ told (lowest (later s t r vs)) 0
+      pub room_spent : d ≡ true → 13 ≡ lowest (later s t r vs)
       unfolding lowest
       room_spent g = rw (unfilled, unspent, ← ed, g)
 
-      pub room_done : d ≡ false → told 0 0 ≡ told (lowest (later s t r vs)) 0
+      pub room_done : d ≡ false → 0 ≡ lowest (later s t r vs)
       unfolding lowest
       room_done g = rw (unfilled, unspent, ← ed, g)
 
@@ -193,21 +189,18 @@ module _ (s t : List ℕ) (c : Checked s t) (r : ℕ) (vs : List ℕ) where
   unfolding lowest decode
   later_is = ap (λ n. cond (eqb n (capacity_of t)) 11 (cond (eqb (clock_at t) largest_counter) 12 (cond (spent (held t) (odd (held t) keys)) 13 0))) (recs_length s t c)
 
-  tells : (n : ℕ) → number ≡ n → told n 0 ≡ told number 0
-  tells n e = ap (λ n. told n 0) (sym e)
+  pub insertion_below : r < 1 → 5 ≡ number
+  insertion_below h = sym (number_is ∙ rw (lt-leb 1 r h))
 
-  pub insertion_below : r < 1 → told 5 0 ≡ told number 0
-  insertion_below h = tells 5 (number_is ∙ rw (lt-leb 1 r h))
-
-  pub insertion_above : 1 ≤ r → (n : ℕ) → n ≡ relations s → n < r → told 5 0 ≡ told number 0
-  insertion_above a n e h = let w : length (schema_of s) < r = omega (arith, schema_length_lem s) in tells 5 (number_is ∙ rw (le-leb 1 r a, lt-leb r (length (schema_of s)) w))
+  pub insertion_above : 1 ≤ r → (n : ℕ) → n ≡ relations s → n < r → 5 ≡ number
+  insertion_above a n e h = let w : length (schema_of s) < r = omega (arith, schema_length_lem s) in sym (number_is ∙ rw (le-leb 1 r a, lt-leb r (length (schema_of s)) w))
 
   module _ (a : 1 ≤ r) (b : r ≤ relations s) where
-    pub insertion_bad : (v : Bool) → v ≡ values_rule (kinds_of s r) vs → v ≡ false → told 7 0 ≡ told number 0
+    pub insertion_bad : (v : Bool) → v ≡ values_rule (kinds_of s r) vs → v ≡ false → 7 ≡ number
     insertion_bad v e h =
         let d : r ≤ length (schema_of s) = omega (arith, schema_length_lem s) in
         let w : values_rule (relation_numbered (schema_of s) r).kinds vs ≡ false = rw (kinds_numbered a b) (sym e ∙ h) in
-        tells 7 (number_is ∙ rw (le-leb 1 r a, le-leb r (length (schema_of s)) d, w))
+        sym (number_is ∙ rw (le-leb 1 r a, le-leb r (length (schema_of s)) d, w))
 
     module _ (w : values_rule (kinds_of s r) vs ≡ true) where
       number_r : number ≡ cond (not shows) 8 (cond conflicted 9 (lowest (later s t r vs)))
@@ -217,12 +210,12 @@ module _ (s t : List ℕ) (c : Checked s t) (r : ℕ) (vs : List ℕ) where
           number_is ∙ rw (le-leb 1 r a, le-leb r (length (schema_of s)) d, v, targets_new a b w is_reference, ← later_is)
 
       module _ (g : Bool) (eg : g ≡ shows) where
-        pub insertion_target : g ≡ false → told 8 0 ≡ told number 0
-        insertion_target h = let k : shows ≡ false = sym eg ∙ h in tells 8 (number_r ∙ rw k)
+        pub insertion_target : g ≡ false → 8 ≡ number
+        insertion_target h = let k : shows ≡ false = sym eg ∙ h in sym (number_r ∙ rw k)
 
         module _ (h : g ≡ true) (d : Bool) (ed : d ≡ conflicted) where
-          pub insertion_taken : d ≡ true → told 9 0 ≡ told number 0
-          insertion_taken q = let k : shows ≡ true = sym eg ∙ h in let m : conflicted ≡ true = sym ed ∙ q in tells 9 (number_r ∙ rw (k, m))
+          pub insertion_taken : d ≡ true → 9 ≡ number
+          insertion_taken q = let k : shows ≡ true = sym eg ∙ h in let m : conflicted ≡ true = sym ed ∙ q in sym (number_r ∙ rw (k, m))
 
           pub insertion_later : d ≡ false → number ≡ lowest (later s t r vs)
           insertion_later q = let k : shows ≡ true = sym eg ∙ h in let m : conflicted ≡ false = sym ed ∙ q in number_r ∙ rw (k, m)

@@ -26,7 +26,8 @@ use Rattle.laws.proofs.Shown.{in_has, listed}
 use Rattle.laws.proofs.Order.{is_some, has_at}
 use Rattle.laws.proofs.Drafts.{has_order}
 use Rattle.laws.proofs.Members.{at_member, absent}
-use Rattle.references.specs.Order.{Checked, key_at}
+use Rattle.judged.specs.Checked.{Checked}
+use Rattle.references.specs.Order.{key_at}
 use Rattle.references.proofs.Places.{Spot, spot, same_key}
 use Rattle.marks.specs.Marks.{is_marked}
 use Rattle.marks.proofs.Marks.{marked_true, true_marked}

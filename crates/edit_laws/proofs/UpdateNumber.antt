@@ -4,36 +4,35 @@ use Prim.Native.Nat.{ℕ, zero, suc, ◌+◌, ◌-◌, ◌/◌, ◌%◌, ◌^◌
 use mathlib.Core.Path.{◌≡◌, refl, sym, ◌∙◌, ap}
 use mathlib.Core.Logic.{◌⊎◌, inl, inr}
 use mathlib.Core.Bool.{Bool, true, false, cond, ◌||◌, ◌&&◌, not}
-use mathlib.Core.List.{List, [], ◌∷◌, map}
+use mathlib.Core.List.{List, [], ◌∷◌}
 use native.Mathlib.Omega.{arith}
 use lib.Dec.{eqb, leb}
 use lib.ListN.{length, get_or, set, length-set}
 use lib.Seq.{ext_get_or, get_or-set_same, get_or-set_other}
-use borrow.Author.Tests.{eqb-true, eqb-false, eq-eqb, ne_eqb, le-leb, lt-leb}
-use Rattle.answers.specs.Told.{Told, told}
+use borrow.Author.Tests.{eqb-true, eq-eqb, ne_eqb, le-leb, lt-leb}
 use Rattle.crdt.specs.Labels.{largest_counter, is_label}
-use Rattle.crdt.specs.Cells.{Reg, reg, no_reg, Cell}
+use Rattle.crdt.specs.Cells.{Reg, reg, no_reg}
 use Rattle.crdt.proofs.Tests.{test, and_right, Tri, low, same, high, tri}
 use Rattle.model.specs.Layout.{fields, field_count, kind_at, mask_at, used_at, clock_at, relation_at, value_at, stamp_at}
 use Rattle.model.specs.Lists.{from, listed, some_of, all_of, lowest}
-use Rattle.model.specs.Schemas.{Relation, is_reference, schema_of, names}
-use Rattle.model.specs.Records.{Rec, relation, has}
-use Rattle.model.specs.Tables.{Table, decode, record_of}
+use Rattle.model.specs.Schemas.{is_reference, schema_of, names}
+use Rattle.model.specs.Records.{Rec, has}
+use Rattle.model.specs.Tables.{decode, record_of}
 use Rattle.model.specs.WellFormed.{field_rule}
 use Rattle.model.specs.Shown.{described, conflict_on, standing, shown}
-use Rattle.model.specs.Edits.{Edit, record_at, register_at, with_register, new_label, value_rule, leading, spent, update_redoes, update_conflict, update}
+use Rattle.model.specs.Edits.{register_at, with_register, new_label, value_rule, leading, spent, update_redoes, update_conflict, update}
 use Rattle.model.specs.Calls.{update_of}
 use Rattle.wellformed.proofs.ListRanges.{map_from}
-use Rattle.wellformed.proofs.Facts.{Formed, formed, Ruled, ruled}
+use Rattle.wellformed.proofs.Facts.{formed, ruled}
 use Rattle.wellformed.proofs.Ranges.{listed_at, listed_length}
-use Rattle.references.specs.Order.{Checked, key_at}
+use Rattle.references.specs.Order.{key_at}
 use Rattle.references.specs.Resolved.{Marked}
 use Rattle.references.proofs.Places.{key_relation, fields_most}
 use Rattle.marks.specs.Marks.{is_marked}
 use Rattle.list_conflicts.specs.Keys.{values_conflict, values_at}
 use Rattle.list_conflicts.proofs.Keys.{first_mask, second_mask}
 use Rattle.edit_delta.specs.Picked.{Picked}
-use Rattle.edit_basics.specs.Targets.{kinds_of, held, Placed}
+use Rattle.edit_basics.specs.Targets.{held, Placed}
 use Rattle.edit_laws.proofs.Picks.{keys_apart}
 use Rattle.edit_laws.specs.Clash.{clashes, Renewed, narrowed}
 use Rattle.edit_laws.proofs.Clash.{values_of, kinds_here, conflict_on_lem}
@@ -165,20 +164,20 @@ module _ (s t : List ℕ) (i f new : ℕ) (o : Placed s t i) where
     A-is : a ≡ A
     A-is = ea ∙ shown_mark s t m i o mk
 
-    pub update_hidden : a ≡ false → told 6 0 ≡ told number 0
-    update_hidden h = let k : A ≡ false = sym A-is ∙ h in ap (λ n. told n 0) (sym (number_is ∙ rw k))
+    pub update_hidden : a ≡ false → 6 ≡ number
+    update_hidden h = let k : A ≡ false = sym A-is ∙ h in sym (number_is ∙ rw k)
 
     module _ (h : a ≡ true) where
       shown_here : A ≡ true
       shown_here = sym A-is ∙ h
 
-      pub update_below : f < 1 → told 7 0 ≡ told number 0
-      update_below l = ap (λ n. told n 0) (sym (number_is ∙ rw (shown_here, lt-leb 1 f l)))
+      pub update_below : f < 1 → 7 ≡ number
+      update_below l = sym (number_is ∙ rw (shown_here, lt-leb 1 f l))
 
-      pub update_above : 1 ≤ f → (n : ℕ) → n ≡ field_count s ρ → n < f → told 7 0 ≡ told number 0
+      pub update_above : 1 ≤ f → (n : ℕ) → n ≡ field_count s ρ → n < f → 7 ≡ number
       update_above b n e l =
           let w : length (described (schema_of s) x).kinds < f = omega (arith, kinds_count) in
-          ap (λ n. told n 0) (sym (number_is ∙ rw (shown_here, le-leb 1 f b, lt-leb f (length (described (schema_of s) x).kinds) w)))
+          sym (number_is ∙ rw (shown_here, le-leb 1 f b, lt-leb f (length (described (schema_of s) x).kinds) w))
 
       -- a field of the relation
       module _ (b : 1 ≤ f) (l : f ≤ field_count s ρ) (k : ℕ) (ek : k ≡ kind_at s ρ f) where
@@ -195,39 +194,39 @@ module _ (s t : List ℕ) (i f new : ℕ) (o : Placed s t i) where
             number_is ∙ rw (shown_here, le-leb 1 f b, le-leb f (length (described (schema_of s) x).kinds) w, K-is, old_is, clock_is)
 
         module _ (v : Bool) (ev : v ≡ value_rule k new) where
-          pub update_bad : v ≡ false → told 7 0 ≡ told number 0
-          update_bad q = let w : value_rule k new ≡ false = sym ev ∙ q in ap (λ n. told n 0) (sym (number_k ∙ rw w))
+          pub update_bad : v ≡ false → 7 ≡ number
+          update_bad q = let w : value_rule k new ≡ false = sym ev ∙ q in sym (number_k ∙ rw w)
 
           module _ (q : v ≡ true) (g : Bool) (eg : g ≡ shows k) where
             w7 : value_rule k new ≡ true
             w7 = sym ev ∙ q
 
-            pub update_target : g ≡ false → told 8 0 ≡ told number 0
-            update_target p = let w : shows k ≡ false = sym eg ∙ p in ap (λ n. told n 0) (sym (number_k ∙ rw (w7, w)))
+            pub update_target : g ≡ false → 8 ≡ number
+            update_target p = let w : shows k ≡ false = sym eg ∙ p in sym (number_k ∙ rw (w7, w))
 
             module _ (p : g ≡ true) (d : Bool) (ed : d ≡ conflicted) where
               w8 : shows k ≡ true
               w8 = sym eg ∙ p
 
-              pub update_taken : d ≡ true → told 9 0 ≡ told number 0
-              update_taken u = let w : conflicted ≡ true = sym ed ∙ u in ap (λ n. told n 0) (sym (number_k ∙ rw (w7, w8, w)))
+              pub update_taken : d ≡ true → 9 ≡ number
+              update_taken u = let w : conflicted ≡ true = sym ed ∙ u in sym (number_k ∙ rw (w7, w8, w))
 
               module _ (u : d ≡ false) (n : ℕ) (en : n ≡ clock_at t) where
                 w9 : conflicted ≡ false
                 w9 = sym ed ∙ u
 
-                pub update_clock : n ≡ largest_counter → told 12 0 ≡ told number 0
-                update_clock z = ap (λ n. told n 0) (sym (number_k ∙ rw (w7, w8, w9, eq-eqb (clock_at t) largest_counter (sym en ∙ z))))
+                pub update_clock : n ≡ largest_counter → 12 ≡ number
+                update_clock z = sym (number_k ∙ rw (w7, w8, w9, eq-eqb (clock_at t) largest_counter (sym en ∙ z)))
 
                 module _ (z : n ≡ largest_counter → ⊥) (e : Bool) (ee : e ≡ spends k (value_at t i f)) where
                   w12 : eqb (clock_at t) largest_counter ≡ false
                   w12 = ne_eqb (clock_at t) largest_counter (λ c. z (en ∙ c))
 
-                  pub update_spent : e ≡ true → told 13 0 ≡ told number 0
-                  update_spent c = let w : spends k (value_at t i f) ≡ true = sym ee ∙ c in ap (λ n. told n 0) (sym (number_k ∙ rw (w7, w8, w9, w12, w)))
+                  pub update_spent : e ≡ true → 13 ≡ number
+                  update_spent c = let w : spends k (value_at t i f) ≡ true = sym ee ∙ c in sym (number_k ∙ rw (w7, w8, w9, w12, w))
 
-                  pub update_done : e ≡ false → told 0 0 ≡ told number 0
-                  update_done c = let w : spends k (value_at t i f) ≡ false = sym ee ∙ c in ap (λ n. told n 0) (sym (number_k ∙ rw (w7, w8, w9, w12, w)))
+                  pub update_done : e ≡ false → 0 ≡ number
+                  update_done c = let w : spends k (value_at t i f) ≡ false = sym ee ∙ c in sym (number_k ∙ rw (w7, w8, w9, w12, w))
 
 -- a mask that names a field, and one that does not
 pub narrow_kept : (m f : ℕ) → m / 2 ^ (f - 1) % 2 ≡ 1 → m ≡ narrowed m f

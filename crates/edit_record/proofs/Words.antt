@@ -1,18 +1,13 @@
 -- The words of a delta after stores.
 -- Assumes nothing.
-use Prim.Native.Nat.{ℕ, ◌+◌, ◌*◌, ◌-◌, ◌≤◌, ◌<◌}
-use mathlib.Core.Path.{◌≡◌, refl, sym, ◌∙◌, ap}
+use Prim.Native.Nat.{ℕ, ◌+◌, ◌*◌, ◌-◌}
+use mathlib.Core.Path.{◌≡◌, refl, ◌∙◌, ap}
 use mathlib.Core.Bool.{Bool, true, false, cond, ◌||◌, ◌&&◌}
 use mathlib.Core.List.{List, []}
-use mathlib.Core.Logic.{◌⊎◌, inl, inr, ◌≢◌}
-use native.Mathlib.Omega.{arith}
 use lib.Dec.{eqb, ltb}
-use lib.ListN.{length, get_or, set, replicate, length-replicate, get_or-replicate}
-use lib.Seq.{ext_get_or, get_or-set_same, get_or-set_other}
-use borrow.Author.Tests.{eqb-true, eqb-false}
+use lib.ListN.{length, set, replicate}
 use Rattle.crdt.specs.Labels.{label_within}
 use Rattle.crdt.specs.Flags.{redone}
-use Rattle.crdt.proofs.Tests.{test}
 use Rattle.model.specs.Layout.{delta_records, delta_words, used_word, first_words, header_words, record_words, replica_word, clock_word, base, replica_at, clock_at, used_at, relation_at, label_at, flag_at}
 use Rattle.model.specs.Tables.{decode, encode}
 use Rattle.model.specs.Edits.{new_label}
@@ -22,17 +17,6 @@ use Rattle.edit_record.specs.Record.{link_of, appended, marked, stepped}
 -- the empty delta
 pub empty_words : (d : List ℕ) (r c : ℕ) → d ≡ replicate (header_words + record_words * delta_records) 0 → set (set d replica_word r) clock_word c ≡ encode (record { capacity = delta_records; replica = r; clock = c; records = [] })
 empty_words d r c e = ap (λ (l : List ℕ). set (set l replica_word r) clock_word c) e ∙ ap (λ (l : List ℕ). set l clock_word c) (start_encodes delta_records r) ∙ clock_words _ c
-
--- zeroing
-pub cleared_next : (d : List ℕ) (i : ℕ) → i < length d → ((k : ℕ) → k < i → get_or d k 0 ≡ 0) → (k : ℕ) → k < i + 1 → get_or (set d i 0) k 0 ≡ 0
-cleared_next d i h f k l = go (test (eqb k i))
-  where
-    go : (eqb k i ≡ true) ⊎ (eqb k i ≡ false) → get_or (set d i 0) k 0 ≡ 0
-    go (inl e) = let z : k ≡ i = eqb-true k i e in rw z (get_or-set_same d i 0 0 h)
-    go (inr e) = let z : k ≢ i = eqb-false k i e in get_or-set_other d i k 0 0 z ∙ f k (omega arith)
-
-pub cleared_all : (d : List ℕ) (i n : ℕ) → length d ≡ n → n ≤ i → ((k : ℕ) → k < i → get_or d k 0 ≡ 0) → d ≡ replicate n 0
-cleared_all d i n e h f = ext_get_or 0 d (replicate n 0) (e ∙ sym (length-replicate n 0)) (λ k l. f k (omega arith) ∙ sym (get_or-replicate n k 0 0 (omega arith)))
 
 pub begun : (d d₁ d₂ d₃ : List ℕ) (r c : ℕ) → length d ≡ delta_words → d₁ ≡ replicate (length d) 0 → d₂ ≡ set d₁ replica_word r → d₃ ≡ set d₂ clock_word c → d₃ ≡ encode (record { capacity = delta_records; replica = r; clock = c; records = [] })
 begun d d₁ d₂ d₃ r c l e f g = g ∙ ap (λ (q : List ℕ). set q clock_word c) f ∙ empty_words d₁ r c (e ∙ ap (λ (n : ℕ). replicate n 0) l)

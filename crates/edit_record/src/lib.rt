@@ -1,7 +1,7 @@
 // The words of a delta: an empty one, one more record, and the label of a new record.
 #![tactic(auto)]
 
-ghost use Rattle.std.specs.Prelude.{◌≡◌, cond, [], ◌≤◌, ◌<◌, length, replicate};
+ghost use Rattle.std.specs.Prelude.{◌≡◌, cond, [], ◌≤◌, ◌<◌, length};
 ghost use Rattle.crdt.specs.Labels.{largest_counter};
 ghost use Rattle.crdt.specs.Flags.{redone, deleted};
 ghost use Rattle.model.specs.Layout.{most_relations, most_records, delta_records, delta_words, clock_at, used_at, flag_at};
@@ -9,22 +9,12 @@ ghost use Rattle.model.specs.Tables.{decode, encode};
 ghost use Rattle.model.specs.Edits.{new_label};
 ghost use Rattle.edit_record.specs.Record.{link_of, appended, marked, Steppable, stepped};
 
-fn clear(delta: &mut [u64])
-    ensures { delta.new ≡ replicate (length delta.old) 0 }
-{
-    let mut i = 0;
-    while i < delta.len() {
-        delta[i] = 0;
-        i += 1;
-    }
-}
-
 // An empty delta.
 pub fn begin(delta: &mut [u64], replica: u64, clock: u64)
     requires { length delta.old ≡ delta_words }
     ensures { delta.new ≡ encode (record { capacity = delta_records; replica = replica; clock = clock; records = [] }) }
 {
-    clear(delta);
+    delta.fill(0);
     layout::store(delta, layout::REPLICA_WORD, replica);
     layout::store(delta, layout::CLOCK_WORD, clock);
 }
@@ -42,6 +32,7 @@ fn link(delta: &[u64], relation: usize) -> usize
 }
 
 // Writes a record with a flag and no stamps behind the last record.
+#[tactic(auto, unfolding(model::specs::Layout::base))]
 pub fn append(delta: &mut [u64], relation: usize, label: u64, flag: u64)
     requires { (used_at delta.old ≤ most_records) × (1 ≤ relation) × (relation ≤ most_relations) }
     ensures { delta.new ≡ appended delta.old relation label flag }

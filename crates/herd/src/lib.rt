@@ -31,7 +31,7 @@ pub extern "C" fn herd_version() -> u64
 pub extern "C" fn herd_schema_check(schema: &[u64]) -> u64
     ensures { result ≡ schema_number schema.now }
 {
-    schema::schema_check(schema).number()
+    answers::number(schema::schema_check(schema))
 }
 
 // Table check for C: the answer's number.
@@ -39,7 +39,7 @@ pub extern "C" fn herd_schema_check(schema: &[u64]) -> u64
 pub extern "C" fn herd_table_check(schema: &[u64], table: &[u64]) -> u64
     ensures { result ≡ table_number schema.now table.now }
 {
-    table::table_check(schema, table).number()
+    answers::number(table::table_check(schema, table))
 }
 
 // Starting a table for C: the answer's number.
@@ -48,7 +48,7 @@ pub extern "C" fn herd_start(table: &mut [u64], replica: u64) -> u64
     ensures answer { result ≡ start_number table.old replica }
     ensures words { table.new ≡ start_table table.old replica }
 {
-    table_start::start(table, replica).number()
+    answers::number(table_start::start(table, replica))
 }
 
 // Merge for C: the answer's number; `changed` becomes the number of records changed or added, 0 in a refusal.
@@ -64,8 +64,8 @@ pub extern "C" fn herd_merge(
     ensures words { own.new ≡ merge_table schema.now own.old other.now }
 {
     let answer = merge::merge(schema, own, other);
-    *changed = answer.changed() as u64;
-    answer.number()
+    *changed = answer.unwrap_or(0) as u64;
+    answers::number(answer)
 }
 
 // Which of two copies is ahead, for C: the answer's number; `verdict` becomes 1 to 4, 0 in a refusal.
@@ -80,8 +80,8 @@ pub extern "C" fn herd_compare(
     ensures verdict { verdict.new ≡ compare_verdict schema.now first.now second.now }
 {
     let answer = compare::compare(schema, first, second);
-    *verdict = answer.verdict();
-    answer.number()
+    *verdict = answer.map_or(0, u64::from);
+    answers::number(answer)
 }
 
 // A record looked up by relation and label, for C: the answer's number; `index` becomes its index, 0 where it is not known and in a refusal.
@@ -97,8 +97,8 @@ pub extern "C" fn herd_lookup(
     ensures position { index.new ≡ lookup_index schema.now table.now relation label }
 {
     let answer = lookup::lookup(schema, table, relation, label);
-    *index = answer.index() as u64;
-    answer.number()
+    *index = answers::index(answer) as u64;
+    answers::number(answer)
 }
 
 // An old schema and table turned into new ones, for C: the answer's number.
@@ -113,7 +113,7 @@ pub extern "C" fn herd_widen(
     ensures schema_words { schema.new ≡ widen_schema old_schema.now old_table.now schema.old table.old }
     ensures table_words { table.new ≡ widen_table old_schema.now old_table.now schema.old table.old }
 {
-    shapes::widen(old_schema, old_table, schema, table).number()
+    answers::number(shapes::widen(old_schema, old_table, schema, table))
 }
 
 // A schema and a table turned back into old ones, for C: the answer's number.
@@ -128,7 +128,7 @@ pub extern "C" fn herd_narrow(
     ensures schema_words { old_schema.new ≡ narrow_schema schema.now table.now old_schema.old old_table.old }
     ensures table_words { old_table.new ≡ narrow_table schema.now table.now old_schema.old old_table.old }
 {
-    shapes::narrow(schema, table, old_schema, old_table).number()
+    answers::number(shapes::narrow(schema, table, old_schema, old_table))
 }
 
 // Insertion for C: the answer's number; `label` becomes the label of the new record, 0 in a refusal.
@@ -147,8 +147,8 @@ pub extern "C" fn herd_insert(
     ensures delta_words { delta.new ≡ insertion_delta schema.now own.old delta.old relation values.now }
 {
     let answer = edits::insertion(schema, own, delta, relation, values);
-    *label = answer.label();
-    answer.number()
+    *label = answer.unwrap_or(0);
+    answers::number(answer)
 }
 
 // Update for C: the answer's number.
@@ -165,7 +165,7 @@ pub extern "C" fn herd_update(
     ensures words { own.new ≡ update_table schema.now own.old delta.old index field value }
     ensures delta_words { delta.new ≡ update_delta schema.now own.old delta.old index field value }
 {
-    edits::update(schema, own, delta, index, field, value).number()
+    answers::number(edits::update(schema, own, delta, index, field, value))
 }
 
 // Deletion for C: the answer's number.
@@ -180,7 +180,7 @@ pub extern "C" fn herd_delete(
     ensures words { own.new ≡ deletion_table schema.now own.old delta.old index }
     ensures delta_words { delta.new ≡ deletion_delta schema.now own.old delta.old index }
 {
-    edits::deletion(schema, own, delta, index).number()
+    answers::number(edits::deletion(schema, own, delta, index))
 }
 
 // Shown marks for C: the answer's number; `shown` becomes the number of shown records, 0 in a refusal.
@@ -196,8 +196,8 @@ pub extern "C" fn herd_marks(
     ensures bytes { marks.new ≡ marks_marks schema.now table.now marks.old }
 {
     let answer = list_shown::marks(schema, table, marks);
-    *shown = answer.count() as u64;
-    answer.number()
+    *shown = answer.unwrap_or(0) as u64;
+    answers::number(answer)
 }
 
 // The list walk for C: the answer's number; `given` becomes the index of the record given, 0 at the end and in a refusal; `place` moves to it, and otherwise stays.
@@ -214,10 +214,9 @@ pub extern "C" fn herd_walk(
     ensures moved { place.new ≡ walk_place schema.now table.now marks.now place.old }
 {
     let m = list_walk::next_from(schema, table, marks, *place as usize);
-    let answer = m.answer;
     *place = m.index as u64;
-    *given = answer.index() as u64;
-    answer.number()
+    *given = answers::index(m.answer) as u64;
+    answers::number(m.answer)
 }
 
 // The values call for C: the answer's number; `first` becomes the word of the table at which the record's values begin, 0 in a refusal.

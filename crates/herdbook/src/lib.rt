@@ -19,9 +19,9 @@ pub extern "C" fn book_enter_group(
     ensures words { own.new ≡ insertion_table book own.old delta.old groups (number ∷ []) }
     ensures delta_words { delta.new ≡ insertion_delta book own.old delta.old groups (number ∷ []) }
 {
-    let answer = book::enter_group(own, delta, number);
-    *label = answer.label();
-    answer.number()
+    let answer = book_entries::enter_group(own, delta, number);
+    *label = answer.unwrap_or(0);
+    answers::number(answer)
 }
 
 // Changing a field of a group for C: the answer's number.
@@ -37,7 +37,7 @@ pub extern "C" fn book_change_group(
     ensures words { own.new ≡ change_table groups own.old delta.old index field value }
     ensures delta_words { delta.new ≡ change_delta groups own.old delta.old index field value }
 {
-    book::change_group(own, delta, index, field, value).number()
+    answers::number(book_edits::change(own, delta, book_schema::GROUP, index, field, value))
 }
 
 // Striking off a group for C: the answer's number.
@@ -47,7 +47,7 @@ pub extern "C" fn book_strike_group(own: &mut [u64], delta: &mut [u64], index: u
     ensures words { own.new ≡ strike_table groups own.old delta.old index }
     ensures delta_words { delta.new ≡ strike_delta groups own.old delta.old index }
 {
-    book::strike_group(own, delta, index).number()
+    answers::number(book_edits::strike(own, delta, book_schema::GROUP, index))
 }
 
 // Entering a cow for C: the answer's number; `label` becomes the label of the new record, 0 in a refusal.
@@ -65,9 +65,9 @@ pub extern "C" fn book_enter_cow(
     ensures words { own.new ≡ insertion_table book own.old delta.old cows (ear_tag ∷ transponder ∷ group ∷ []) }
     ensures delta_words { delta.new ≡ insertion_delta book own.old delta.old cows (ear_tag ∷ transponder ∷ group ∷ []) }
 {
-    let answer = book::enter_cow(own, delta, ear_tag, transponder, group);
-    *label = answer.label();
-    answer.number()
+    let answer = book_entries::enter_cow(own, delta, ear_tag, transponder, group);
+    *label = answer.unwrap_or(0);
+    answers::number(answer)
 }
 
 // Changing a field of a cow for C: the answer's number.
@@ -83,7 +83,7 @@ pub extern "C" fn book_change_cow(
     ensures words { own.new ≡ change_table cows own.old delta.old index field value }
     ensures delta_words { delta.new ≡ change_delta cows own.old delta.old index field value }
 {
-    book::change_cow(own, delta, index, field, value).number()
+    answers::number(book_edits::change(own, delta, book_schema::COW, index, field, value))
 }
 
 // Striking off a cow for C: the answer's number.
@@ -93,7 +93,7 @@ pub extern "C" fn book_strike_cow(own: &mut [u64], delta: &mut [u64], index: usi
     ensures words { own.new ≡ strike_table cows own.old delta.old index }
     ensures delta_words { delta.new ≡ strike_delta cows own.old delta.old index }
 {
-    book::strike_cow(own, delta, index).number()
+    answers::number(book_edits::strike(own, delta, book_schema::COW, index))
 }
 
 // Entering a robot for C: the answer's number; `label` becomes the label of the new record, 0 in a refusal.
@@ -109,9 +109,9 @@ pub extern "C" fn book_enter_robot(
     ensures words { own.new ≡ insertion_table book own.old delta.old robots (number ∷ []) }
     ensures delta_words { delta.new ≡ insertion_delta book own.old delta.old robots (number ∷ []) }
 {
-    let answer = book::enter_robot(own, delta, number);
-    *label = answer.label();
-    answer.number()
+    let answer = book_entries::enter_robot(own, delta, number);
+    *label = answer.unwrap_or(0);
+    answers::number(answer)
 }
 
 // Changing a field of a robot for C: the answer's number.
@@ -127,7 +127,7 @@ pub extern "C" fn book_change_robot(
     ensures words { own.new ≡ change_table robots own.old delta.old index field value }
     ensures delta_words { delta.new ≡ change_delta robots own.old delta.old index field value }
 {
-    book::change_robot(own, delta, index, field, value).number()
+    answers::number(book_edits::change(own, delta, book_schema::ROBOT, index, field, value))
 }
 
 // Striking off a robot for C: the answer's number.
@@ -137,7 +137,7 @@ pub extern "C" fn book_strike_robot(own: &mut [u64], delta: &mut [u64], index: u
     ensures words { own.new ≡ strike_table robots own.old delta.old index }
     ensures delta_words { delta.new ≡ strike_delta robots own.old delta.old index }
 {
-    book::strike_robot(own, delta, index).number()
+    answers::number(book_edits::strike(own, delta, book_schema::ROBOT, index))
 }
 
 // Entering a milking for C: the answer's number; `label` becomes the label of the new record, 0 in a refusal.
@@ -157,9 +157,9 @@ pub extern "C" fn book_enter_milking(
     ensures words { own.new ≡ insertion_table book own.old delta.old milkings (cow ∷ robot ∷ grams ∷ tenths ∷ minute ∷ []) }
     ensures delta_words { delta.new ≡ insertion_delta book own.old delta.old milkings (cow ∷ robot ∷ grams ∷ tenths ∷ minute ∷ []) }
 {
-    let answer = book::enter_milking(own, delta, cow, robot, grams, tenths, minute);
-    *label = answer.label();
-    answer.number()
+    let answer = book_entries::enter_milking(own, delta, cow, robot, grams, tenths, minute);
+    *label = answer.unwrap_or(0);
+    answers::number(answer)
 }
 
 // Changing a field of a milking for C: the answer's number.
@@ -175,7 +175,7 @@ pub extern "C" fn book_change_milking(
     ensures words { own.new ≡ change_table milkings own.old delta.old index field value }
     ensures delta_words { delta.new ≡ change_delta milkings own.old delta.old index field value }
 {
-    book::change_milking(own, delta, index, field, value).number()
+    answers::number(book_edits::change(own, delta, book_schema::MILKING, index, field, value))
 }
 
 // Striking off a milking for C: the answer's number.
@@ -185,7 +185,7 @@ pub extern "C" fn book_strike_milking(own: &mut [u64], delta: &mut [u64], index:
     ensures words { own.new ≡ strike_table milkings own.old delta.old index }
     ensures delta_words { delta.new ≡ strike_delta milkings own.old delta.old index }
 {
-    book::strike_milking(own, delta, index).number()
+    answers::number(book_edits::strike(own, delta, book_schema::MILKING, index))
 }
 
 // Entering a cleaning for C: the answer's number; `label` becomes the label of the new record, 0 in a refusal.
@@ -203,9 +203,9 @@ pub extern "C" fn book_enter_cleaning(
     ensures words { own.new ≡ insertion_table book own.old delta.old cleanings (robot ∷ start ∷ end ∷ []) }
     ensures delta_words { delta.new ≡ insertion_delta book own.old delta.old cleanings (robot ∷ start ∷ end ∷ []) }
 {
-    let answer = book::enter_cleaning(own, delta, robot, start, end);
-    *label = answer.label();
-    answer.number()
+    let answer = book_entries::enter_cleaning(own, delta, robot, start, end);
+    *label = answer.unwrap_or(0);
+    answers::number(answer)
 }
 
 // Changing a field of a cleaning for C: the answer's number.
@@ -221,7 +221,7 @@ pub extern "C" fn book_change_cleaning(
     ensures words { own.new ≡ change_table cleanings own.old delta.old index field value }
     ensures delta_words { delta.new ≡ change_delta cleanings own.old delta.old index field value }
 {
-    book::change_cleaning(own, delta, index, field, value).number()
+    answers::number(book_edits::change(own, delta, book_schema::CLEANING, index, field, value))
 }
 
 // Striking off a cleaning for C: the answer's number.
@@ -231,7 +231,7 @@ pub extern "C" fn book_strike_cleaning(own: &mut [u64], delta: &mut [u64], index
     ensures words { own.new ≡ strike_table cleanings own.old delta.old index }
     ensures delta_words { delta.new ≡ strike_delta cleanings own.old delta.old index }
 {
-    book::strike_cleaning(own, delta, index).number()
+    answers::number(book_edits::strike(own, delta, book_schema::CLEANING, index))
 }
 
 // Entering a treatment for C: the answer's number; `label` becomes the label of the new record, 0 in a refusal.
@@ -249,9 +249,9 @@ pub extern "C" fn book_enter_treatment(
     ensures words { own.new ≡ insertion_table book own.old delta.old treatments (cow ∷ first ∷ last ∷ []) }
     ensures delta_words { delta.new ≡ insertion_delta book own.old delta.old treatments (cow ∷ first ∷ last ∷ []) }
 {
-    let answer = book::enter_treatment(own, delta, cow, first, last);
-    *label = answer.label();
-    answer.number()
+    let answer = book_entries::enter_treatment(own, delta, cow, first, last);
+    *label = answer.unwrap_or(0);
+    answers::number(answer)
 }
 
 // Changing a field of a treatment for C: the answer's number.
@@ -267,7 +267,7 @@ pub extern "C" fn book_change_treatment(
     ensures words { own.new ≡ change_table treatments own.old delta.old index field value }
     ensures delta_words { delta.new ≡ change_delta treatments own.old delta.old index field value }
 {
-    book::change_treatment(own, delta, index, field, value).number()
+    answers::number(book_edits::change(own, delta, book_schema::TREATMENT, index, field, value))
 }
 
 // Striking off a treatment for C: the answer's number.
@@ -277,7 +277,7 @@ pub extern "C" fn book_strike_treatment(own: &mut [u64], delta: &mut [u64], inde
     ensures words { own.new ≡ strike_table treatments own.old delta.old index }
     ensures delta_words { delta.new ≡ strike_delta treatments own.old delta.old index }
 {
-    book::strike_treatment(own, delta, index).number()
+    answers::number(book_edits::strike(own, delta, book_schema::TREATMENT, index))
 }
 
 // The search for a shown milking for C: the answer's number; `index` becomes the index of the milking, 0 where none is shown and in a refusal.
@@ -287,6 +287,6 @@ pub extern "C" fn book_find_milking(table: &[u64], label: u64, index: &mut u64) 
     ensures position { index.new ≡ find_index table.now label }
 {
     let answer = book_find::find_milking(table, label);
-    *index = answer.index() as u64;
-    answer.number()
+    *index = answers::index(answer) as u64;
+    answers::number(answer)
 }

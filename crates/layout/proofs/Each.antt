@@ -1,6 +1,6 @@
 -- Tests of each of 1 to n: one number more, one number of them, and two tests that agree.
 -- Assumes nothing.
-use Prim.Native.Nat.{ℕ, zero, suc, ◌+◌, ◌≤◌}
+use Prim.Native.Nat.{ℕ, zero, suc, ◌+◌, ◌-◌, ◌≤◌}
 use mathlib.Core.Path.{◌≡◌, refl, ap, ap₂, sym, ◌∙◌}
 use mathlib.Core.Bool.{Bool, true, false, ◌&&◌}
 use native.Mathlib.Omega.{arith}
@@ -61,3 +61,10 @@ each_fail n p k h g e = go (test (each n p))
 -- a test that has passed so far, one turn more
 pub each_next : (n : ℕ) (p : ℕ → Bool) → each n p ≡ true → p (n + 1) ≡ true → each (n + 1) p ≡ true
 each_next n p e f = sym (each_more true true n p (sym e) (sym f))
+
+-- the same for a loop over 1 to n, which has passed those before r
+pub each_up : (good x : Bool) (r : ℕ) (p : ℕ → Bool) → 1 ≤ r → good ≡ each (r - 1) p → x ≡ p r → (good && x) ≡ each (r + 1 - 1) p
+each_up good x r p h e f =
+    let a : r ≡ (r - 1) + 1 = omega arith in
+    let b : r + 1 - 1 ≡ (r - 1) + 1 = omega arith in
+    each_more good x (r - 1) p e (f ∙ ap p a) ∙ ap (λ n. each n p) (sym b)

@@ -1,3 +1,4 @@
 pub mod Words
 pub mod Stride
 pub mod Each
+pub mod Forms

@@ -3,7 +3,7 @@
 -- Assumes nothing.
 use Prim.Native.Nat.{ℕ, ◌+◌, ◌*◌, ◌-◌, ◌/◌, ◌%◌, ◌≤◌, ◌<◌}
 use mathlib.Core.Path.{◌≡◌, refl}
-use mathlib.Core.Bool.{Bool, true, false, ◌&&◌, ◌||◌}
+use mathlib.Core.Bool.{true, false, ◌&&◌, ◌||◌}
 use mathlib.Core.List.{List}
 use mathlib.Core.Logic.{◌≢◌}
 use native.Mathlib.Omega.{arith}
@@ -11,8 +11,8 @@ use lib.Dec.{leb, ltb, eqb}
 use lib.ListN.{length}
 use borrow.Author.Tests.{leb-true, eqb-true, eqb-false, ltb-false}
 use Rattle.crdt.proofs.Tests.{or_false, and_left, and_right}
-use Rattle.model.specs.Layout.{header_words, record_words, block_words, schema_words, most_relations, most_records, delta_words, delta_records, block, base, capacity_of, used_at}
-use Rattle.model.specs.Calls.{schema_length, table_length, delta_length, bad_index}
+use Rattle.model.specs.Layout.{header_words, record_words, most_records, delta_words, delta_records, base, capacity_of, used_at}
+use Rattle.model.specs.Calls.{table_length, delta_length, bad_index}
 
 pub base_first : base 1 ≡ header_words
 unfolding base
@@ -57,7 +57,8 @@ pub sized : (t : List ℕ) → table_length t ≡ true → Sized t
 unfolding table_length capacity_of base
 sized t e =
     let p = and_left (leb header_words (length t) && eqb ((length t - header_words) % record_words) 0) (leb ((length t - header_words) / record_words) most_records) e in
-    let m = leb-true ((length t - header_words) / record_words) most_records (and_right (leb header_words (length t) && eqb ((length t - header_words) % record_words) 0) (leb ((length t - header_words) / record_words) most_records) e) in
+    let q = and_right (leb header_words (length t) && eqb ((length t - header_words) % record_words) 0) (leb ((length t - header_words) / record_words) most_records) e in
+    let m = leb-true ((length t - header_words) / record_words) most_records q in
     let h = leb-true header_words (length t) (and_left (leb header_words (length t)) (eqb ((length t - header_words) % record_words) 0) p) in
     let z = eqb-true ((length t - header_words) % record_words) 0 (and_right (leb header_words (length t)) (eqb ((length t - header_words) % record_words) 0) p) in
     record { words = omega arith; end = omega arith; least = h; most = m }
@@ -72,11 +73,7 @@ pub capacity_in_lem : (t : List ℕ) (i : ℕ) → 1 ≤ i → i ≤ capacity_of
 unfolding base capacity_of
 capacity_in_lem t i h g = omega arith
 
--- the lengths of a schema and of a delta
-pub schema_sized : (s : List ℕ) → schema_length s ≡ true → length s ≡ schema_words
-unfolding schema_length
-schema_sized s e = eqb-true (length s) schema_words e
-
+-- the length of a delta
 pub delta_sized : (d : List ℕ) → delta_length d ≡ true → length d ≡ delta_words
 unfolding delta_length
 delta_sized d e = eqb-true (length d) delta_words e
@@ -84,11 +81,6 @@ delta_sized d e = eqb-true (length d) delta_words e
 pub delta_capacity : (d : List ℕ) → delta_length d ≡ true → capacity_of d ≡ delta_records
 unfolding capacity_of
 delta_capacity d e = rw (delta_sized d e)
-
--- the block of a relation lies in the schema
-pub block_in_lem : (r : ℕ) → r ≤ most_relations → block r + block_words ≤ schema_words
-unfolding block
-block_in_lem r h = omega arith
 
 -- what an index within the capacity says
 pub record Inside (t : List ℕ) (i : ℕ) : Type 0 where

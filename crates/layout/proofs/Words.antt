@@ -1,31 +1,32 @@
 -- Words of a slice by what they mean: the forms in which the accessors ask for them.
 -- Assumes nothing.
-use Prim.Native.Nat.{ℕ, ◌+◌, ◌-◌, ◌≤◌, ◌<◌, ◌^◌}
-use mathlib.Core.Path.{◌≡◌, sym}
+use Prim.Native.Nat.{ℕ, min, ◌+◌, ◌-◌, ◌≤◌, ◌<◌, ◌^◌}
+use mathlib.Core.Path.{◌≡◌, sym, ◌∙◌}
 use mathlib.Core.List.{List}
 use native.Mathlib.Omega.{arith}
 use native.Mathlib.Nat.{add-sub_cancel_left}
 use lib.ListN.{length, take, drop, get_or-eq_default}
 use lib.Seq.{get_or-take, get_or-drop}
-use Rattle.model.specs.Layout.{word, block, base, first_at}
+use Rattle.crdt.proofs.Tests.{Tri, low, same, high, tri}
+use Rattle.model.specs.Layout.{first_words, word, first_at}
 
 -- a word past the end is 0
 pub word_past : (t : List ℕ) (k : ℕ) → length t ≤ k → 0 ≡ word t k
 unfolding word
 word_past t k h = sym (get_or-eq_default t 0 h)
 
--- a record or a block whose number is above 2^58, and a word further into it than the slice is long
-pub record_far : (t : List ℕ) (i part j : ℕ) → length t ≤ 2 ^ 60 → 2 ^ 58 < i → 0 ≡ word t (base i + part + j)
-unfolding base
-record_far t i part j h g = word_past t _ (omega arith)
-
-pub block_far : (s : List ℕ) (r part j : ℕ) → length s ≤ 2 ^ 60 → 2 ^ 58 < r → 0 ≡ word s (block r + part + j)
-unfolding block
-block_far s r part j h g = word_past s _ (omega arith)
-
-pub first_far : (t : List ℕ) (r : ℕ) → length t < r → 0 ≡ first_at t r
+-- the word of a first index, and the end where the sum would not fit
+pub first_word : (t : List ℕ) (r n k x : ℕ) → length t ≤ 2 ^ 60 → n ≡ r - 1 → k ≡ min (4 + n) 18446744073709551615 → x ≡ word t k → x ≡ first_at t r
 unfolding first_at
-first_far t r h = word_past t _ (omega arith)
+first_word t r n k x h e f g = go (tri (4 + n) 18446744073709551615)
+  where
+    here : k ≡ first_words + (r - 1) → x ≡ word t (first_words + (r - 1))
+    here z = rw z at g
+
+    go : Tri (4 + n) 18446744073709551615 → x ≡ word t (first_words + (r - 1))
+    go (low l) = here (omega (arith, f))
+    go (same l) = here (omega (arith, f))
+    go (high l) = g ∙ sym (word_past t k (omega (arith, f))) ∙ word_past t _ (omega arith)
 
 module _ (t : List ℕ) (a x : ℕ) where
   pub word_at : (b : ℕ) → a ≡ b → x ≡ word t a → x ≡ word t b

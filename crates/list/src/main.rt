@@ -1,12 +1,12 @@
 // The list program: a schema and a table on standard input, the list of the shown records on standard output.
 #![tactic(auto)]
 
-ghost use Rattle.std.specs.Prelude.{◌≡◌, true, IfOk, IfSome, OnOk, ◌+◌, ◌<◌, ◌≤◌, length, take, drop, OnErr};
+ghost use Rattle.std.specs.Prelude.{◌≡◌, true, IfSome, OnOk, ◌+◌, ◌<◌, ◌≤◌, length, take, drop};
 ghost use Rattle.model.specs.Layout.{schema_words, header_words, capacity_of};
 ghost use Rattle.model.specs.Calls.{marks_length};
-ghost use Rattle.list.specs.Program.{most_listed, most_words, most_bytes, most_text, is_whole, answer_text, list_text};
+ghost use Rattle.list.specs.Program.{most_bytes, is_whole, answer_text, list_text};
 ghost use Rattle.list_text.specs.Placed.{Placed};
-ghost use Rattle.std.specs.Io.KnownBytes.{Appends, Consumes, IsAtEnd};
+ghost use Rattle.std.specs.Io.KnownBytes.{Appends};
 
 use std::io;
 use std::io::{Read, Write};
@@ -53,40 +53,24 @@ fn run_read<R: Read, W: Write>(
     reader: &mut R,
     writer: &mut W,
     input: &mut [u8],
-    words: &mut [u64],
-    marks: &mut [u8],
-    out: &mut [u8],
+    words: &mut [u64; MOST_WORDS],
+    marks: &mut [u8; MOST_RECORDS],
+    out: &mut [u8; TEXT_BYTES],
 ) -> io::Result<()>
-    requires { (most_words ≤ length words.old) × (most_listed ≤ length marks.old) × (most_text ≤ length out.old) }
     ensures { most_bytes < length input.old → OnOk result (IfSome (R.remaining reader.old) (λ b. Appends (W.contents writer.old) (W.contents writer.new) (list_text b))) }
 {
-    let n = read_full(reader, input)?;
+    let n = codec::read_full(reader, input)?;
     let k = respond(&input[0..n], words, marks, out);
     writer.write_all(&out[0..k])
 }
 
-// Reads until the buffer is full or the input ends; how many bytes stand at the buffer's beginning. Of a reader whose bytes are
-// known these are the first, and all of them where the buffer has room left.
-fn read_full<R: Read>(reader: &mut R, buf: &mut [u8]) -> io::Result<usize>
-    ensures within { IfOk result (λ n. n ≤ length buf.new) }
-    ensures bytes { IfOk result (λ n. Consumes (R.remaining reader.old) (R.remaining reader.new) (take n buf.new)) }
-    ensures failed { OnErr result (length buf.new ≡ length buf.old) }
-    ensures end { IfOk result (λ n. n < length buf.new → IsAtEnd (R.remaining reader.new)) }
-{
-    let mut done = 0;
-    while done < buf.len() {
-        let n = reader.read(&mut buf[done..])?;
-        if n == 0 {
-            return Ok(done);
-        }
-        done += n;
-    }
-    Ok(done)
-}
-
 // The text for an input, at the beginning of `out`, and its length.
-fn respond(input: &[u8], words: &mut [u64], marks: &mut [u8], out: &mut [u8]) -> usize
-    requires { (most_words ≤ length words.old) × (most_listed ≤ length marks.old) × (most_text ≤ length out.old) }
+fn respond(
+    input: &[u8],
+    words: &mut [u64; MOST_WORDS],
+    marks: &mut [u8; MOST_RECORDS],
+    out: &mut [u8; TEXT_BYTES],
+) -> usize
     ensures { (result ≤ length out.new) × (take result out.new ≡ list_text input.now) }
 {
     write(input, words, marks, out)
@@ -108,8 +92,12 @@ fn is_whole(input: &[u8]) -> bool
 }
 
 // The same text, as far as `out` has room.
-fn write(input: &[u8], words: &mut [u64], marks: &mut [u8], out: &mut [u8]) -> usize
-    requires { (most_words ≤ length words.old) × (most_listed ≤ length marks.old) }
+fn write(
+    input: &[u8],
+    words: &mut [u64; MOST_WORDS],
+    marks: &mut [u8; MOST_RECORDS],
+    out: &mut [u8],
+) -> usize
     ensures { Placed out.old 0 (list_text input.now) result out.new }
 {
     if !is_whole(input) {
@@ -139,10 +127,8 @@ fn list(schema: &[u64], table: &[u64], marks: &mut [u8], out: &mut [u8]) -> usiz
     requires { marks_length table.now marks.old ≡ true }
     ensures { Placed out.old 0 (answer_text schema.now table.now) result out.new }
 {
-    let answer = list_shown::marks(schema, table, marks);
-    let number = answer.number();
-    if number != 0 {
-        return list_text::refused(number, out);
+    match list_shown::marks(schema, table, marks) {
+        Ok(count) => list_text::shown(schema, table, marks, count, out),
+        Err(refusal) => list_text::refused(u64::from(refusal), out),
     }
-    list_text::shown(schema, table, marks, answer.count(), out)
 }

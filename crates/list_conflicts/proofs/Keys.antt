@@ -12,14 +12,13 @@ use lib.ListN.{length, get_or, take, drop, length-take, length-drop}
 use lib.Seq.{drop-cons}
 use borrow.Author.Tests.{eq-eqb, ne_eqb}
 use Rattle.crdt.specs.Cells.{Reg, reg}
-use Rattle.crdt.proofs.Tests.{clash}
 use Rattle.model.specs.Layout.{fields, head_words, word, base, relations, field_count, kind_at, mask_at, capacity_of, used_at, relation_at, value_at, stamp_at}
 use Rattle.model.specs.Lists.{from, listed}
 use Rattle.model.specs.Schemas.{Relation, no_relation, is_reference, broken, relation_of, schema_of, relation_numbered}
-use Rattle.model.specs.Records.{Rec, relation}
+use Rattle.model.specs.Records.{relation}
 use Rattle.model.specs.Tables.{record_of}
 use Rattle.model.specs.WellFormed.{well_formed}
-use Rattle.model.specs.Shown.{described, value, equal_on, conflict_on, conflict}
+use Rattle.model.specs.Shown.{described, equal_on, conflict_on, conflict}
 use Rattle.wellformed.proofs.Ranges.{listed_at}
 use Rattle.wellformed.proofs.ListRanges.{map_from, span}
 use Rattle.wellformed.proofs.Facts.{SoundSchema, schema_sound, Formed, formed, Ruled, ruled}
@@ -85,24 +84,20 @@ equal_values m (k ∷ ks) [] (y ∷ ys) = ap (λ (t : Bool). field_agrees m k 0 
 equal_values m (k ∷ ks) (x ∷ xs) [] = ap (λ (t : Bool). field_agrees m k x.value 0 && t) (equal_values (m / 2) ks xs [])
 equal_values m (k ∷ ks) (x ∷ xs) (y ∷ ys) = ap (λ (t : Bool). field_agrees m k x.value y.value && t) (equal_values (m / 2) ks xs ys)
 
--- the part of a table that begins four words into a record at word p
+-- the part of a table that begins at word p, as long as a record's values
 abbrev pub part_at : List ℕ → ℕ → List ℕ
-part_at t p = take (p + head_words + fields - (p + head_words)) (drop (p + head_words) t)
+part_at t p = take (p + fields - p) (drop p t)
 
-pub part_length : (t : List ℕ) (p i : ℕ) → p ≡ base i → base i + head_words + fields ≤ length t → length (part_at t p) ≡ fields
-part_length t p i e h = simp (length-take, length-drop) (omega arith)
+pub part_length : (t : List ℕ) (p : ℕ) → p + fields ≤ length t → length (part_at t p) ≡ fields
+part_length t p h = simp (length-take, length-drop) (omega arith)
 
-pub part_values : (t : List ℕ) (p i : ℕ) → p ≡ base i → part_at t p ≡ values_at t i
+pub part_values : (t : List ℕ) (p i : ℕ) → p ≡ base i + head_words → part_at t p ≡ values_at t i
 unfolding values_at
-part_values t p i e = rw (add-sub_cancel_left (p + head_words) fields, e)
+part_values t p i e = rw (add-sub_cancel_left p fields, e)
 
-pub part_lent : (s t : List ℕ) (i r p m : ℕ) (vs : List ℕ) (x : Bool) → r ≡ relation_at t i → p ≡ base i
+pub part_lent : (s t : List ℕ) (i r p m : ℕ) (vs : List ℕ) (x : Bool) → r ≡ relation_at t i → p ≡ base i + head_words
     → x ≡ values_conflict s r m (part_at t p) vs → x ≡ values_conflict s (relation_at t i) m (values_at t i) vs
 part_lent s t i r p m vs x e f h = rw (part_values t p i f, e) at h
-
-pub parts_lent : (s t : List ℕ) (i j r p q m : ℕ) (x : Bool) → r ≡ relation_at t i → p ≡ base i → q ≡ base j
-    → x ≡ values_conflict s r m (part_at t p) (part_at t q) → x ≡ values_conflict s (relation_at t i) m (values_at t i) (values_at t j)
-parts_lent s t i j r p q m x e f g h = rw (part_values t p i f, part_values t q j g, e) at h
 
 pub few_of : (s t : List ℕ) (i r : ℕ) → r ≡ relation_at t i → field_count s (relation_at t i) ≤ fields → field_count s r ≤ fields
 few_of s t i r e h = rw e h
@@ -154,14 +149,6 @@ module _ (s t : List ℕ) (b : broken s ≡ false) (w : well_formed s t ≡ true
     unfolding relation_of
     kinds_are = ap (λ (q : Relation). q.kinds) described_is
 
-    -- a record of the table and one with the values lent
-    pub lent_on : (m : ℕ) (y : Rec) (vs : List ℕ) → values_of y.cell.regs ≡ vs
-        → values_conflict s (relation_at t i) m (values_at t i) vs ≡ conflict_on (schema_of s) m (record_of t i) y
-    unfolding values_conflict conflict_on
-    lent_on m y vs e =
-        ap (λ (z : Bool). not (eqb m 0) && z)
-        (sym (equal_values m _ (record_of t i).cell.regs y.cell.regs ∙ rw (kinds_are, values_are, e)))
-
   -- two records
   module _ (i j : ℕ) (a : 1 ≤ i) (l : i ≤ used_at t) (p : 1 ≤ j) (q : j ≤ used_at t) where
     pub records_on : (m : ℕ) → values_conflict s (relation_at t i) m (values_at t i) (values_at t j) ≡ conflict_on (schema_of s) m (record_of t i) (record_of t j)
@@ -177,12 +164,3 @@ module _ (s t : List ℕ) (b : broken s ≡ false) (w : well_formed s t ≡ true
     records_meet e =
         let r : relation (record_of t i) ≡ relation (record_of t j) = relation_own i a l ∙ e ∙ sym (relation_own j p q) in
         rw (eq-eqb (relation (record_of t i)) (relation (record_of t j)) r, first_mask i a l, second_mask i a l)
-
--- a test of a mark and then of a conflict
-pub not_both : (a b x : Bool) → x ≡ a → not x ≡ true → false ≡ (a && b)
-not_both true b x e n = clash n (ap not e)
-not_both false b x e n = refl
-
-pub and_then : (a b x y : Bool) → x ≡ a → not x ≡ false → y ≡ b → y ≡ (a && b)
-and_then true b x y e n f = f
-and_then false b x y e n f = clash (ap not e) n

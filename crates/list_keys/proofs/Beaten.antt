@@ -3,7 +3,7 @@
 use Prim.Native.Nat.{ℕ, ◌+◌, ◌-◌, ◌≤◌, ◌<◌}
 use mathlib.Core.Path.{◌≡◌, refl, sym, ◌∙◌, ap}
 use mathlib.Core.Logic.{◌⊎◌, inl, inr}
-use mathlib.Core.Bool.{Bool, true, false, cond, ◌&&◌, ◌||◌, not}
+use mathlib.Core.Bool.{Bool, true, false, cond, ◌&&◌, ◌||◌}
 use mathlib.Core.List.{List}
 use native.Mathlib.Omega.{arith}
 use lib.Dec.{eqb}
@@ -72,23 +72,28 @@ module _ (s t : List ℕ) (b : broken s ≡ false) (w : well_formed s t ≡ true
         go (inl p) = clash (holds s t b w (stood s t) i (kept_in (schema_of s) (stood s t) _ (member_at s t b w keeps kept_part i a g p))) e
         go (inr p) = p
 
-    -- on either key
+    -- record j conflicts with it on a key, and on either
+    abbrev on_key : ℕ → ℕ → Bool
+    on_key m j = conflict_on (schema_of s) m (record_of t j) (record_of t i)
+
+    abbrev on_either : ℕ → Bool
+    on_either j = on_key (mask_at s (relation_at t i) 1) j || on_key (mask_at s (relation_at t i) 2) j
+
     either : (j : ℕ) → 1 ≤ j → j ≤ used_at t → relation_at t j ≡ relation_at t i
-        → (conflict_on (schema_of s) (mask_at s (relation_at t i) 1) (record_of t j) (record_of t i) || conflict_on (schema_of s) (mask_at s (relation_at t i) 2) (record_of t j) (record_of t i))
-        ≡ conflict (schema_of s) (record_of t j) (record_of t i)
+        → on_either j ≡ conflict (schema_of s) (record_of t j) (record_of t i)
     either j p q e = rw e at (records_meet s t b w j i p q a g e)
 
     -- one that stands and conflicts with no older one of its relation that is kept, on either key, is kept
     abbrev Clear : ℕ → Type 0
-    Clear j = relation_at t j ≡ relation_at t i → label_at t j < label_at t i → has keeps (record_of t j).key ≡ true
-        → (conflict_on (schema_of s) (mask_at s (relation_at t i) 1) (record_of t j) (record_of t i) || conflict_on (schema_of s) (mask_at s (relation_at t i) 2) (record_of t j) (record_of t i)) ≡ false
+    Clear j = relation_at t j ≡ relation_at t i → label_at t j < label_at t i → has keeps (record_of t j).key ≡ true → on_either j ≡ false
 
     kept_one : has (stood s t) (record_of t i).key ≡ true → ((j : ℕ) → 1 ≤ j → j ≤ used_at t → Clear j) → has keeps (record_of t i).key ≡ true
     kept_one e clear =
         holds s t b w keeps i
         ((kept_exactly (schema_of s) (stood s t) rises (record_of t i) (member_at s t b w (stood s t) part i a g e)).1 (λ y h l. free y h l (test (conflict (schema_of s) y (record_of t i)))))
       where
-        free : (y : Rec) → y ∈ keeps → y.key < (record_of t i).key → (conflict (schema_of s) y (record_of t i) ≡ true) ⊎ (conflict (schema_of s) y (record_of t i) ≡ false) → conflict (schema_of s) y (record_of t i) ≡ false
+        free : (y : Rec) → y ∈ keeps → y.key < (record_of t i).key → (conflict (schema_of s) y (record_of t i) ≡ true) ⊎ (conflict (schema_of s) y (record_of t i) ≡ false)
+            → conflict (schema_of s) y (record_of t i) ≡ false
         free y h l (inr c) = c
         free y h l (inl c) =
             let r = in_record s t b w y (kept_part y h) in
@@ -102,14 +107,14 @@ module _ (s t : List ℕ) (b : broken s ≡ false) (w : well_formed s t ≡ true
 
     -- marks c: those of the older records of its relation are the kept ones, and its own is that of the standing ones
     module _ (c : List ℕ) (m n : ℕ) (em : m ≡ mask_at s (relation_at t i) 1) (en : n ≡ mask_at s (relation_at t i) 2)
-        (older : (j : ℕ) → 1 ≤ j → j ≤ used_at t → relation_at t j ≡ relation_at t i → label_at t j < label_at t i → get_or c (j - 1) 0 ≡ kept_mark s t j) (itself : get_or c (i - 1) 0 ≡ stood_mark s t i) where
+        (older : (j : ℕ) → 1 ≤ j → j ≤ used_at t → relation_at t j ≡ relation_at t i → label_at t j < label_at t i → get_or c (j - 1) 0 ≡ kept_mark s t j)
+        (itself : get_or c (i - 1) 0 ≡ stood_mark s t i) where
       beaten_dropped : (k : ℕ) → (k ≡ mask_at s (relation_at t i) 1) ⊎ (k ≡ mask_at s (relation_at t i) 2) → beaten_on s t c k i ≡ true → has keeps (record_of t i).key ≡ false
       beaten_dropped k ek h = go (test (has keeps (record_of t i).key))
         where
-          meets : (j : ℕ) → (k ≡ mask_at s (relation_at t i) 1) ⊎ (k ≡ mask_at s (relation_at t i) 2) → conflict_on (schema_of s) k (record_of t j) (record_of t i) ≡ true
-              → (conflict_on (schema_of s) (mask_at s (relation_at t i) 1) (record_of t j) (record_of t i) || conflict_on (schema_of s) (mask_at s (relation_at t i) 2) (record_of t j) (record_of t i)) ≡ true
+          meets : (j : ℕ) → (k ≡ mask_at s (relation_at t i) 1) ⊎ (k ≡ mask_at s (relation_at t i) 2) → on_key k j ≡ true → on_either j ≡ true
           meets j (inl e) f = or_left _ _ (rw e at f)
-          meets j (inr e) f = or_right (conflict_on (schema_of s) (mask_at s (relation_at t i) 1) (record_of t j) (record_of t i)) _ (rw e at f)
+          meets j (inr e) f = or_right (on_key (mask_at s (relation_at t i) 1) j) _ (rw e at f)
 
           go : (has keeps (record_of t i).key ≡ true) ⊎ (has keeps (record_of t i).key ≡ false) → has keeps (record_of t i).key ≡ false
           go (inr p) = p
@@ -122,10 +127,10 @@ module _ (s t : List ℕ) (b : broken s ≡ false) (w : well_formed s t ≡ true
               absurd (omega (arith, q, key_less t i j r.3.related r.3.older))
 
       unbeaten : (k : ℕ) → beaten_on s t c k i ≡ false → (j : ℕ) → 1 ≤ j → j ≤ used_at t → relation_at t j ≡ relation_at t i → label_at t j < label_at t i → has keeps (record_of t j).key ≡ true
-          → conflict_on (schema_of s) k (record_of t j) (record_of t i) ≡ false
-      unbeaten k e j p q f l h = go (test (conflict_on (schema_of s) k (record_of t j) (record_of t i)))
+          → on_key k j ≡ false
+      unbeaten k e j p q f l h = go (test (on_key k j))
         where
-          go : (conflict_on (schema_of s) k (record_of t j) (record_of t i) ≡ true) ⊎ (conflict_on (schema_of s) k (record_of t j) (record_of t i) ≡ false) → conflict_on (schema_of s) k (record_of t j) (record_of t i) ≡ false
+          go : (on_key k j ≡ true) ⊎ (on_key k j ≡ false) → on_key k j ≡ false
           go (inr z) = z
           go (inl z) =
               let y = marked_is c j (has keeps (record_of t j).key) p (older j p q f l) ∙ h in
@@ -133,7 +138,9 @@ module _ (s t : List ℕ) (b : broken s ≡ false) (w : well_formed s t ≡ true
 
       pub kept_mark_lem : cond (loses s t c m n i) 0 (get_or c (i - 1) 0) ≡ kept_mark s t i
       unfolding loses
-      kept_mark_lem = rw (marked_is c i (has (stood s t) (record_of t i).key) a itself, itself) (go (test (has (stood s t) (record_of t i).key)) (test (beaten_on s t c m i)) (test (beaten_on s t c n i)))
+      kept_mark_lem =
+          rw (marked_is c i (has (stood s t) (record_of t i).key) a itself, itself)
+          (go (test (has (stood s t) (record_of t i).key)) (test (beaten_on s t c m i)) (test (beaten_on s t c n i)))
         where
           go : (has (stood s t) (record_of t i).key ≡ true) ⊎ (has (stood s t) (record_of t i).key ≡ false)
               → (beaten_on s t c m i ≡ true) ⊎ (beaten_on s t c m i ≡ false) → (beaten_on s t c n i ≡ true) ⊎ (beaten_on s t c n i ≡ false)
@@ -180,5 +187,5 @@ module _ (s t : List ℕ) (b : broken s ≡ false) (w : well_formed s t ≡ true
           let q : i - 1 + 1 ≡ i = omega arith in
           (rw q at (h.at (i - 1) (omega arith))) ∙ ap (λ (x : Bool). cond x 1 0) (marked_is k i (has (stood s t) (record_of t i).key) a (mk.at i a g))
 
-  pub upto_all : (n : ℕ) (c : List ℕ) → most_relations ≤ n → Upto s t (place (n + 1) 0) c → Marked t (kept (schema_of s) (stood s t)) c
+  pub upto_all : (n : ℕ) (c : List ℕ) → most_relations < n → Upto s t (place n 0) c → Marked t (kept (schema_of s) (stood s t)) c
   upto_all n c h u = record { at = λ i a g. u.done i a g (omega (arith, own_relation s t b w i a g, (labels s t b w i a g).1)) }

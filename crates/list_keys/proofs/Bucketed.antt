@@ -6,13 +6,11 @@ use mathlib.Core.Logic.{◌⊎◌, inl, inr}
 use mathlib.Core.Bool.{Bool, true, false, cond, ◌&&◌, ◌||◌}
 use mathlib.Core.List.{List}
 use native.Mathlib.Omega.{arith}
-use mir.Syntax.{w16, w64}
-use mir.Val.{Fits}
 use lib.Dec.{eqb, ltb}
 use lib.ListN.{length, get_or, set}
 use lib.Seq.{get_or-set_same, get_or-set_other}
 use borrow.Author.Tests.{eqb-true, eqb-false, eq-eqb, ne_eqb, ltb-true, lt-ltb}
-use Rattle.crdt.proofs.Tests.{Tri, low, same, high, tri, test, clash, or_false, and_left, and_right, and_both}
+use Rattle.crdt.proofs.Tests.{Tri, low, same, high, tri, test, clash, and_left, and_right, and_both}
 use Rattle.model.specs.Layout.{used_at, relation_at, label_at}
 use Rattle.model.specs.Schemas.{broken, schema_of}
 use Rattle.model.specs.Records.{relation}
@@ -24,6 +22,9 @@ use Rattle.wellformed.proofs.Ranges.{any_at}
 use Rattle.marks.specs.Marks.{is_marked}
 use Rattle.marks.proofs.Marks.{marked_here}
 use Rattle.marks.proofs.Chain.{On, one_label}
+use Rattle.std.specs.Prelude.{Option, Some, None, MatchOption}
+use Rattle.list_keys.specs.declared.Key.{Key}
+use Rattle.list_keys.specs.Keys.{Holds, linked}
 use Rattle.list_keys.specs.Buckets.{buckets, bucket_at, slot_at, keyed, beats, beaten_on, loses, Older, Buckets}
 use Rattle.list_conflicts.proofs.Keys.{relation_own}
 use Rattle.list_keys.proofs.Digests.{bucket_below, conflict_left, conflict_right, conflict_bucket}
@@ -348,47 +349,37 @@ module _ (s t k : List ℕ) (b : broken s ≡ false) (w : well_formed s t ≡ tr
 
 -- slots
 module _ (s t : List ℕ) (m i : ℕ) (x : Bool) (e : x ≡ conflict_on (schema_of s) m (record_of t i) (record_of t i)) where
-  pub slot_empty : x ≡ false → buckets ≡ slot_at s t m i
+  pub slot_empty : x ≡ false → None ≡ slot_at s t m i
   unfolding slot_at
   slot_empty f = rw (sym e ∙ f)
 
-  pub slot_own : x ≡ true → (y : ℕ) → y ≡ bucket_at s t m i → y ≡ slot_at s t m i
+  pub slot_own : x ≡ true → (y : ℕ) → y ≡ bucket_at s t m i → Some y ≡ slot_at s t m i
   unfolding slot_at
-  slot_own f y z = rw (sym e ∙ f) z
+  slot_own f y z = rw (sym e ∙ f, z)
 
-module _ (s t : List ℕ) (m i x : ℕ) (e : x ≡ slot_at s t m i) where
-  pub slot_none : x ≡ buckets → conflict_on (schema_of s) m (record_of t i) (record_of t i) ≡ false
+module _ (s t : List ℕ) (m i : ℕ) where
+  abbrev whole : Bool
+  whole = conflict_on (schema_of s) m (record_of t i) (record_of t i)
+
+  pub slot_none : None ≡ slot_at s t m i → whole ≡ false
   unfolding slot_at
-  slot_none z = go (test (conflict_on (schema_of s) m (record_of t i) (record_of t i)))
+  slot_none e = go (test whole)
     where
-      go : (conflict_on (schema_of s) m (record_of t i) (record_of t i) ≡ true) ⊎ (conflict_on (schema_of s) m (record_of t i) (record_of t i) ≡ false) → conflict_on (schema_of s) m (record_of t i) (record_of t i) ≡ false
-      go (inl f) = let q : x ≡ bucket_at s t m i = rw f at e in absurd (omega (arith, bucket_below s t m i))
+      go : (whole ≡ true) ⊎ (whole ≡ false) → whole ≡ false
+      go (inl f) = let q : None ≡ Some (bucket_at s t m i) = rw f at e in absurd (cc q)
       go (inr f) = f
 
-  pub slot_some : (x ≡ buckets → ⊥) → (x ≡ bucket_at s t m i) × (conflict_on (schema_of s) m (record_of t i) (record_of t i) ≡ true)
+  pub slot_some : (x : ℕ) → Some x ≡ slot_at s t m i → (x ≡ bucket_at s t m i) × (whole ≡ true)
   unfolding slot_at
-  slot_some z = go (test (conflict_on (schema_of s) m (record_of t i) (record_of t i)))
+  slot_some x e = go (test whole)
     where
-      go : (conflict_on (schema_of s) m (record_of t i) (record_of t i) ≡ true) ⊎ (conflict_on (schema_of s) m (record_of t i) (record_of t i) ≡ false)
-          → (x ≡ bucket_at s t m i) × (conflict_on (schema_of s) m (record_of t i) (record_of t i) ≡ true)
-      go (inl f) = (rw f at e, f)
-      go (inr f) = absurd (z (rw f at e))
+      go : (whole ≡ true) ⊎ (whole ≡ false) → (x ≡ bucket_at s t m i) × (whole ≡ true)
+      go (inl f) = let q : Some x ≡ Some (bucket_at s t m i) = rw f at e in (cc q, f)
+      go (inr f) = let q : Some x ≡ None = rw f at e in absurd (cc q)
 
-  pub slot_most : x ≤ buckets
-  unfolding slot_at
-  slot_most = go (test (conflict_on (schema_of s) m (record_of t i) (record_of t i)))
-    where
-      go : (conflict_on (schema_of s) m (record_of t i) (record_of t i) ≡ true) ⊎ (conflict_on (schema_of s) m (record_of t i) (record_of t i) ≡ false) → x ≤ buckets
-      go (inl f) = let q : x ≡ bucket_at s t m i = rw f at e in omega (arith, bucket_below s t m i)
-      go (inr f) = let q : x ≡ buckets = rw f at e in omega arith
-
--- an index of 16 bits has 64
-pub wider : (n : ℕ) → Fits w16 n → Fits w64 n
-wider n h = record { fits = omega (arith, h.fits) }
-
--- beaten on one of two keys
-pub either_of : (x y z u : Bool) → z ≡ x → u ≡ y → (z || u) ≡ (x || y)
-either_of x y z u e f = cc (e, f)
+  pub slot_room : (x : Option ℕ) → x ≡ slot_at s t m i → MatchOption x (Unit {0}) (λ b. b < buckets)
+  slot_room None e = tt
+  slot_room (Some x) e = omega (arith, (slot_some x e).0, bucket_below s t m i)
 
 -- marks without record i if it loses
 module _ (s t k : List ℕ) (m n i : ℕ) (c d : List ℕ) where
@@ -396,48 +387,17 @@ module _ (s t k : List ℕ) (m n i : ℕ) (c d : List ℕ) where
   unfolding loses
   loses_unmarked e = rw e
 
-  pub loses_marked : is_marked k i ≡ true → (z : Bool) → z ≡ (beaten_on s t k m i || beaten_on s t k n i) → (c' : List ℕ) → c' ≡ cond z d c → c' ≡ cond (loses s t k m n i) d c
+  pub loses_marked : is_marked k i ≡ true → (x y : Bool) → x ≡ beaten_on s t k m i → y ≡ beaten_on s t k n i → (z : Bool) → (x || y) ≡ z → cond z d c ≡ cond (loses s t k m n i) d c
   unfolding loses
-  loses_marked y z e c' f = rw (y, sym e) f
-
--- what a test chooses
-pub chosen : (z : Bool) (h h' : List ℕ) → z ≡ true → h ≡ cond z h h'
-chosen z h h' e = rw e
-
-pub left_out : (z : Bool) (h h' : List ℕ) → z ≡ false → h' ≡ cond z h h'
-left_out z h h' e = rw e
-
--- a record that is put into its bucket has one
-pub has_bucket : (z : Bool) (x n : ℕ) → (z || eqb x buckets) ≡ false → x ≤ buckets → buckets ≤ n → x < n
-has_bucket z x n e l m = let f = eqb-false x buckets (or_false z (eqb x buckets) e).1 in go (tri x buckets) f
-  where
-    go : Tri x buckets → (x ≡ buckets → ⊥) → x < n
-    go (low p) f = omega arith
-    go (same p) f = absurd (f p)
-    go (high p) f = absurd (omega arith)
+  loses_marked h x y e f z g = rw (h, ← e, ← f, g)
 
 -- a record that is kept, put into its slot
-buckets_slot : (s t k : List ℕ) (b : broken s ≡ false) (w : well_formed s t ≡ true) (m i : ℕ) → 1 ≤ i → i ≤ used_at t → is_marked k i ≡ true → (h g : List ℕ) → Before-it s t k m i h g
-    → (x : ℕ) → x ≡ slot_at s t m i → buckets ≤ length h → i ≤ length g → (h' g' : List ℕ) → h' ≡ cond (eqb x buckets) h (set h x i) → g' ≡ cond (eqb x buckets) g (set g (i - 1) (get_or h x 0))
-    → Buckets s t k m (relation_at t i) (label_at t i + 1) h' g'
+pub holds_linked : (s t k : List ℕ) (b : broken s ≡ false) (w : well_formed s t ≡ true) (q : Key) (i : ℕ) → 1 ≤ i → i ≤ used_at t → is_marked k i ≡ true
+    → Holds s t k (relation_at t i) (label_at t i) q → (x : Option ℕ) → x ≡ slot_at s t q.mask i → buckets ≤ length q.heads → i ≤ length q.links
+    → (q' : Key) → q' ≡ linked q x i → (q'.mask ≡ q.mask) × Holds s t k (relation_at t i) (label_at t i + 1) q'
 unfolding keyed
-buckets_slot s t k b w m i a l y h g u x e p q h' g' c d = go (test (eqb x buckets))
-  where
-    go : (eqb x buckets ≡ true) ⊎ (eqb x buckets ≡ false) → Buckets s t k m (relation_at t i) (label_at t i + 1) h' g'
-    go (inl z) =
-        let c' : h' ≡ h = rw z at c in
-        let d' : g' ≡ g = rw z at d in
-        rw (c', d') (buckets_skip s t k b w m i a l (rw (y, slot_none s t m i x e (eqb-true x buckets z))) h g u)
-    go (inr z) =
-        let r = slot_some s t m i x e (eqb-false x buckets z) in
-        let c' : h' ≡ set h x i = rw z at c in
-        let d' : g' ≡ set g (i - 1) (get_or h x 0) = rw z at d in
-        buckets_link s t k b w m i a l h g u (rw (y, r.1)) x r.0 (omega (arith, bucket_below s t m i, r.0)) q h' g' c' d'
-
--- a marked record dropped if it is beaten, and otherwise put into its slot
-pub buckets_pass : (s t k : List ℕ) (b : broken s ≡ false) (w : well_formed s t ≡ true) (m i : ℕ) → 1 ≤ i → i ≤ used_at t → i ≤ length k → is_marked k i ≡ true → (h g : List ℕ) → Before-it s t k m i h g
-    → (x : ℕ) → x ≡ slot_at s t m i → buckets ≤ length h → i ≤ length g → (z : Bool) (k' h' g' : List ℕ) → k' ≡ cond z (set k (i - 1) 0) k
-    → h' ≡ cond (z || eqb x buckets) h (set h x i) → g' ≡ cond (z || eqb x buckets) g (set g (i - 1) (get_or h x 0))
-    → Buckets s t k' m (relation_at t i) (label_at t i + 1) h' g'
-buckets_pass s t k b w m i a l n y h g u x e p q true k' h' g' f c d = rw (c, d) (buckets_drop s t k b w m i a l n k' f h g u)
-buckets_pass s t k b w m i a l n y h g u x e p q false k' h' g' f c d = rw f (buckets_slot s t k b w m i a l y h g u x e p q h' g' c d)
+holds_linked s t k b w q i a l y u None e p n q' f =
+    rw f (refl, buckets_skip s t k b w q.mask i a l (rw (y, slot_none s t q.mask i e)) q.heads q.links u)
+holds_linked s t k b w q i a l y u (Some x) e p n q' f =
+    let r = slot_some s t q.mask i x e in
+    rw f (refl, buckets_link s t k b w q.mask i a l q.heads q.links u (rw (y, r.1)) x r.0 (omega (arith, bucket_below s t q.mask i, r.0)) n _ _ refl refl)

@@ -13,7 +13,7 @@ use lib.ListN.{length, get_or}
 use borrow.Author.Tests.{eqb-true, eq-eqb, ne_eqb}
 use Rattle.crdt.specs.Cells.{Reg}
 use Rattle.crdt.proofs.Tests.{test, and_left, and_right, and_both}
-use Rattle.model.specs.Layout.{base, field_count, kind_at, used_at, relation_at}
+use Rattle.model.specs.Layout.{head_words, base, field_count, kind_at, used_at, relation_at}
 use Rattle.model.specs.Lists.{listed}
 use Rattle.model.specs.Schemas.{Relation, is_reference, broken, schema_of}
 use Rattle.model.specs.Records.{Rec, relation}
@@ -51,11 +51,8 @@ pub bucket_below : (s t : List ℕ) (m i : ℕ) → bucket_at s t m i < buckets
 unfolding bucket_at digest_of
 bucket_below s t m i = let h = digest_below (field_count s (relation_at t i)) 0 m 0 (values_at t i) (omega arith) in omega arith
 
-pub bucket_room : (s t : List ℕ) (m i x n : ℕ) → x ≡ bucket_at s t m i → buckets ≤ n → x < n
-bucket_room s t m i x n e h = omega (arith, bucket_below s t m i)
-
 -- the bucket by the part of the table that is record i's values
-pub bucket_is : (s t : List ℕ) (i r p m x : ℕ) → r ≡ relation_at t i → p ≡ base i → x ≡ digest_of s r m (part_at t p) → x / share ≡ bucket_at s t m i
+pub bucket_is : (s t : List ℕ) (i r p m x : ℕ) → r ≡ relation_at t i → p ≡ base i + head_words → x ≡ digest_of s r m (part_at t p) → x / share ≡ bucket_at s t m i
 unfolding bucket_at
 bucket_is s t i r p m x e f h = ap (λ (d : ℕ). d / share) (rw (part_values t p i f, e) at h)
 

@@ -13,27 +13,14 @@ use Rattle.model.specs.Layout.{most_relations, used_at, first_at, next_at, relat
 use Rattle.model.specs.Schemas.{broken}
 use Rattle.model.specs.Records.{label_span, place}
 use Rattle.model.specs.WellFormed.{well_formed}
-use Rattle.marks.specs.Marks.{is_marked}
 use Rattle.marks.proofs.Chain.{On, Before, labels, first_on, first_before, next_on, next_before, one_label}
+use Rattle.judged.specs.Checked.{Checked}
+use Rattle.list_keys.specs.declared.Key.{Key}
+use Rattle.list_keys.specs.Keys.{Holds}
 use Rattle.list_keys.specs.Buckets.{loses, Older, Buckets}
-use Rattle.list_keys.specs.Passes.{stood_mark, kept_mark, Upto, Copied}
+use Rattle.list_keys.specs.Passes.{stood_mark, kept_mark, Upto}
 use Rattle.list_keys.proofs.Bucketed.{buckets_same}
 use Rattle.list_keys.proofs.Beaten.{kept_mark_lem}
-
--- marks copied one by one
-pub copied_none : (k a : List ℕ) → Copied k 0 a
-copied_none k a = record { at = λ j h. absurd (omega arith) }
-
-pub copied_more : (k a : List ℕ) (n x : ℕ) → Copied k n a → n < length a → x ≡ cond (is_marked k (n + 1)) 1 0 → Copied k (n + 1) (set a n x)
-copied_more k a n x f h e = record { at = λ j g. go j g (tri j n) }
-  where
-    go : (j : ℕ) → j < n + 1 → Tri j n → get_or (set a n x) j 0 ≡ cond (is_marked k (j + 1)) 1 0
-    go j g (low p) = let q : j ≡ n → ⊥ = λ z. omega arith in get_or-set_other a n j x 0 q ∙ f.at j p
-    go j g (same p) = rw p (get_or-set_same a n x 0 h ∙ e)
-    go j g (high p) = absurd (omega arith)
-
-pub copied_to : (k a : List ℕ) (n i : ℕ) → Copied k i a → n ≤ i → Copied k n a
-copied_to k a n i f h = record { at = λ j g. f.at j (omega arith) }
 
 -- a mark dropped or not
 drop_own : (z : Bool) (a : List ℕ) (i : ℕ) → 1 ≤ i → i ≤ length a → get_or (cond z (set a (i - 1) 0) a) (i - 1) 0 ≡ cond z 0 (get_or a (i - 1) 0)
@@ -59,33 +46,44 @@ buckets_none s t k m r n g =
       link_all = λ i j o p e f. absurd (omega (arith, o.below));
     }
 
--- the chain of relation r at index i: step 3 is done up to a label, and those kept before it are in their buckets for the masks m and n
-pub record Going (s t : List ℕ) (r m n : ℕ) (h g h₂ g₂ a : List ℕ) (i : ℕ) : Type 0 where
+-- the chain of relation r at index i: step 3 is done up to a label, and those kept before it are in the buckets of the keys p and q
+pub record Going (s t : List ℕ) (r : ℕ) (p q : Key) (a : List ℕ) (i : ℕ) : Type 0 where
+  pub first_mask : p.mask ≡ mask_at s r 1
+  pub second_mask : q.mask ≡ mask_at s r 2
   pub bound : ℕ
   pub most : bound ≤ label_span
   pub here : (i ≡ 0) ⊎ On t r i
   pub upto : (j : ℕ) → On t r j → Before t i j → label_at t j < bound
   pub from : (j : ℕ) → On t r j → label_at t j < bound → Before t i j
-  pub first : Buckets s t a m r bound h g
-  pub second : Buckets s t a n r bound h₂ g₂
+  pub first : Holds s t a r bound p
+  pub second : Holds s t a r bound q
   pub marks : Upto s t (place r bound) a
 
-module _ (s t : List ℕ) (b : broken s ≡ false) (w : well_formed s t ≡ true) (r m n : ℕ) (em : m ≡ mask_at s r 1) (en : n ≡ mask_at s r 2) where
-  pub going_start : (i : ℕ) (h g h₂ g₂ a : List ℕ) → 1 ≤ r → r ≤ most_relations → i ≡ first_at t r → Upto s t (place r 0) a → Buckets s t a m r 0 h g → Buckets s t a n r 0 h₂ g₂ → Going s t r m n h g h₂ g₂ a i
-  going_start i h g h₂ g₂ a x y e z u v =
+module _ (s t : List ℕ) (k : Checked s t) (r : ℕ) (p q : Key) (a : List ℕ) (i : ℕ) where
+  b : broken s ≡ false
+  b = k.schema
+
+  w : well_formed s t ≡ true
+  w = k.formed
+
+  pub going_start : 1 ≤ r → r ≤ most_relations → i ≡ first_at t r → p.mask ≡ mask_at s r 1 → q.mask ≡ mask_at s r 2
+      → Upto s t (place r 0) a → Holds s t a r 0 p → Holds s t a r 0 q → Going s t r p q a i
+  going_start x y e em en z u v =
       rw e
       (record {
+        first_mask = em;
+        second_mask = en;
         bound = 0;
         most = omega arith;
         here = first_on s t b w r x y;
-        upto = λ j o q. absurd (first_before s t b w r j o q);
-        from = λ j o q. absurd (omega arith);
+        upto = λ j o d. absurd (first_before s t b w r j o d);
+        from = λ j o d. absurd (omega arith);
         first = u;
         second = v;
         marks = z;
       })
 
-  module _ (h g h₂ g₂ a : List ℕ) (i : ℕ) (u : Going s t r m n h g h₂ g₂ a i) where
+  module _ (u : Going s t r p q a i) where
     module _ (z : i ≡ 0 → ⊥) where
       pub going_on : On t r i
       going_on = go u.here
@@ -109,24 +107,24 @@ module _ (s t : List ℕ) (b : broken s ≡ false) (w : well_formed s t ≡ true
       on_old : (k l j : ℕ) → Older s t a k r l j → On t r j
       on_old k l j o = record { from_one = o.least; within = o.within; related = o.related }
 
-      at_own : (k : ℕ) (h' g' : List ℕ) → Buckets s t a k r u.bound h' g' → Buckets s t a k (relation_at t i) (label_at t i) h' g'
-      at_own k h' g' f =
+      at_own : (x : Key) → Holds s t a r u.bound x → Holds s t a (relation_at t i) (label_at t i) x
+      at_own x f =
           rw going_on.related
-          (buckets_same s t a a k r u.bound (label_at t i)
-          (λ j o. record { least = o.least; within = o.within; related = o.related; below = before_own j (u.from j (on_old k _ j o) o.below); whole = o.whole })
-          (λ j o. record { least = o.least; within = o.within; related = o.related; below = u.upto j (on_old k _ j o) (inr o.below); whole = o.whole })
-          h' g' f)
+          (buckets_same s t a a x.mask r u.bound (label_at t i)
+          (λ j o. record { least = o.least; within = o.within; related = o.related; below = before_own j (u.from j (on_old x.mask _ j o) o.below); whole = o.whole })
+          (λ j o. record { least = o.least; within = o.within; related = o.related; below = u.upto j (on_old x.mask _ j o) (inr o.below); whole = o.whole })
+          x.heads x.links f)
 
       -- as `pass` asks
-      pub going_first : Buckets s t a m (relation_at t i) (label_at t i) h g
-      going_first = at_own m h g u.first
+      pub going_first : Holds s t a (relation_at t i) (label_at t i) p
+      going_first = at_own p u.first
 
-      pub going_second : Buckets s t a n (relation_at t i) (label_at t i) h₂ g₂
-      going_second = at_own n h₂ g₂ u.second
+      pub going_second : Holds s t a (relation_at t i) (label_at t i) q
+      going_second = at_own q u.second
 
       -- and what it gives
-      module _ (h' g' h₂' g₂' a' : List ℕ) (v : ℕ) (e : v ≡ next_at t i) (l : used_at t ≤ length a) (d : a' ≡ cond (loses s t a m n i) (set a (i - 1) 0) a)
-          (f : Buckets s t a' m (relation_at t i) (label_at t i + 1) h' g') (f₂ : Buckets s t a' n (relation_at t i) (label_at t i + 1) h₂' g₂') where
+      module _ (p' q' : Key) (a' : List ℕ) (v : ℕ) (e : v ≡ next_at t i) (l : used_at t ≤ length a) (d : a' ≡ cond (loses s t a p.mask q.mask i) (set a (i - 1) 0) a)
+          (f : (p'.mask ≡ p.mask) × Holds s t a' (relation_at t i) (label_at t i + 1) p') (g : (q'.mask ≡ q.mask) × Holds s t a' (relation_at t i) (label_at t i + 1) q') where
         next_upto : (j : ℕ) → On t r j → Before t (next_at t i) j → label_at t j < label_at t i + 1
         next_upto j o q = go (next_before s t b w r i j going_on o q)
           where
@@ -155,13 +153,14 @@ module _ (s t : List ℕ) (b : broken s ≡ false) (w : well_formed s t ≡ true
         itself = u.marks.rest i going_on.from_one going_on.within (omega (arith, going_on.related, bound_own))
 
         other_mark : (j : ℕ) → 1 ≤ j → (j ≡ i → ⊥) → get_or a' (j - 1) 0 ≡ get_or a (j - 1) 0
-        other_mark j x k = rw d (drop_other (loses s t a m n i) a i j going_on.from_one x k)
+        other_mark j x k = rw d (drop_other (loses s t a p.mask q.mask i) a i j going_on.from_one x k)
 
         own_mark : get_or a' (i - 1) 0 ≡ kept_mark s t i
         own_mark =
             rw d
-            (drop_own (loses s t a m n i) a i going_on.from_one (omega (arith, going_on.within))
-            ∙ kept_mark_lem s t b w i going_on.from_one going_on.within a m n (rw going_on.related em) (rw going_on.related en) (λ c p k q c'. older_kept c p k (q ∙ going_on.related) c') itself)
+            (drop_own (loses s t a p.mask q.mask i) a i going_on.from_one (omega (arith, going_on.within))
+            ∙ kept_mark_lem s t b w i going_on.from_one going_on.within a p.mask q.mask (rw going_on.related u.first_mask) (rw going_on.related u.second_mask)
+            (λ j x y z l. older_kept j x y (z ∙ going_on.related) l) itself)
 
         next_done : (j : ℕ) → 1 ≤ j → j ≤ used_at t → place (relation_at t j) (label_at t j) < place r (label_at t i + 1) → get_or a' (j - 1) 0 ≡ kept_mark s t j
         next_done j x y k = relations (tri (relation_at t j) r)
@@ -181,17 +180,19 @@ module _ (s t : List ℕ) (b : broken s ≡ false) (w : well_formed s t ≡ true
             other_mark j x (λ p. omega (arith, ap (relation_at t) p, ap (label_at t) p, going_on.related))
             ∙ u.marks.rest j x y (omega (arith, bound_own))
 
-        pub going_next : Going s t r m n h' g' h₂' g₂' a' v
+        pub going_next : Going s t r p' q' a' v
         going_next =
             rw e
             (record {
+              first_mask = f.0 ∙ u.first_mask;
+              second_mask = g.0 ∙ u.second_mask;
               bound = label_at t i + 1;
               most = omega (arith, (labels s t b w i going_on.from_one going_on.within).1);
               here = next_here;
               upto = next_upto;
               from = next_from;
-              first = rw going_on.related at f;
-              second = rw going_on.related at f₂;
+              first = rw going_on.related at f.1;
+              second = rw going_on.related at g.1;
               marks = record { done = next_done; rest = next_rest };
             })
 

@@ -1,6 +1,6 @@
 -- Buckets of records by a digest of their keys. s is the schema, t the table, k the marks, m a key's mask.
 -- Assumes nothing.
-use Rattle.std.specs.Prelude.{ℕ, zero, suc, ◌+◌, ◌*◌, ◌-◌, ◌/◌, ◌%◌, ◌≤◌, ◌<◌, ◌≡◌, Bool, true, cond, ◌&&◌, ◌||◌, List, eqb, ltb, get_or}
+use Rattle.std.specs.Prelude.{ℕ, zero, suc, ◌+◌, ◌*◌, ◌-◌, ◌/◌, ◌%◌, ◌≤◌, ◌<◌, ◌≡◌, Bool, true, cond, ◌&&◌, ◌||◌, List, Option, Some, None, eqb, ltb, get_or}
 use Rattle.model.specs.Layout.{field_count, used_at, relation_at, label_at}
 use Rattle.model.specs.Lists.{any}
 use Rattle.model.specs.Schemas.{schema_of}
@@ -42,9 +42,9 @@ digest_of s r m vs = digest_from 0 m 0 (field_count s r) vs
 unfoldable pub bucket_at : List ℕ → List ℕ → ℕ → ℕ → ℕ
 bucket_at s t m i = digest_of s (relation_at t i) m (values_at t i) / share
 
--- The same, or the number of buckets where a reference of its key is empty: it does not conflict with itself.
-unfoldable pub slot_at : List ℕ → List ℕ → ℕ → ℕ → ℕ
-slot_at s t m i = cond (conflict_on (schema_of s) m (record_of t i) (record_of t i)) (bucket_at s t m i) buckets
+-- The same; none where a reference of its key is empty: it does not conflict with itself.
+unfoldable pub slot_at : List ℕ → List ℕ → ℕ → ℕ → Option ℕ
+slot_at s t m i = cond (conflict_on (schema_of s) m (record_of t i) (record_of t i)) (Some (bucket_at s t m i)) None
 
 -- Record i is marked, and no reference of its key is empty: it conflicts with itself.
 unfoldable pub keyed : List ℕ → List ℕ → List ℕ → ℕ → ℕ → Bool

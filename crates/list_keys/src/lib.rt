@@ -3,17 +3,19 @@
 // buckets by a digest of their values, from the oldest on, and a record is compared with those of its bucket.
 #![tactic(auto)]
 
-ghost use Rattle.std.specs.Prelude.{◌≡◌, true, false, cond, ◌||◌, ◌+◌, ◌-◌, ◌%◌, ◌≤◌, ◌<◌, eqb, length, get_or, set};
+ghost use Rattle.std.specs.Prelude.{◌≡◌, cond, ◌+◌, ◌-◌, ◌≤◌, ◌<◌, length, set, replicate, MatchOption};
 ghost use Rattle.model.specs.Layout.{fields, most_relations, most_records, used_at, relation_at, label_at, field_count, mask_at};
 ghost use Rattle.model.specs.Schemas.{schema_of};
 ghost use Rattle.model.specs.Records.{place, in_order};
 ghost use Rattle.model.specs.Tables.{decode};
 ghost use Rattle.model.specs.Shown.{standing, kept};
 ghost use Rattle.marks.specs.Marks.{is_marked};
-ghost use Rattle.references.specs.Order.{Checked};
 ghost use Rattle.references.specs.Resolved.{Marked};
-ghost use Rattle.list_keys.specs.Buckets.{digests, buckets, mixed, digest_of, bucket_at, slot_at, beaten_on, loses, Buckets};
+ghost use Rattle.list_keys.specs.Buckets.{digests, buckets, mixed, digest_of, bucket_at, slot_at, beaten_on, loses};
+ghost use Rattle.list_keys.specs.Keys.{Holds, linked};
 ghost use Rattle.list_keys.specs.Passes.{Upto, Copied};
+
+use judged::Judged;
 
 // One more than the largest digest. The two halves of each value are added, and spread by a factor near 2^30 over the golden ratio.
 const DIGESTS: u64 = 0x4000_0000;
@@ -44,191 +46,118 @@ fn digest(schema: &[u64], r: usize, mask: u64, values: &[u64]) -> u64
     requires { (length values.now ≡ fields) × (field_count schema.now r ≤ fields) }
     ensures { result ≡ digest_of schema.now r mask values.now }
 {
-    let count = layout::field_count(schema, r);
     let mut d: u64 = 0;
     let mut m = mask;
-    let mut j: usize = 0;
-    while j < count {
+    for j in 0..layout::field_count(schema, r) {
         d = mix(d, m, values[j]);
-        m = m / 2;
-        j += 1;
+        m /= 2;
     }
     d
 }
 
 // The bucket of record `i`, by the digest of its key.
-fn bucket(schema: &[u64], table: &[u64], mask: u64, i: usize) -> usize
-    requires { Checked schema.now table.now × (1 ≤ i) × (i ≤ used_at table.now) }
-    ensures { result ≡ bucket_at schema.now table.now mask i }
+fn bucket(t: Judged<'_>, mask: u64, i: usize) -> usize
+    requires { (1 ≤ i) × (i ≤ used_at t.table.now) }
+    ensures { result ≡ bucket_at t.entry.schema.now t.entry.table.now mask i }
 {
-    let a = layout::base(i) + layout::HEAD_WORDS;
-    let r = layout::relation_at(table, i);
-    (digest(schema, r, mask, &table[a..a + layout::FIELDS]) / SHARE) as usize
+    let a = list_conflicts::values_start(t, i);
+    let r = layout::relation_at(t.table, i);
+    (digest(t.schema, r, mask, &t.table[a..a + layout::FIELDS]) / SHARE) as usize
 }
 
-// The bucket of record `i`, or BUCKETS where a reference of its key is empty, so that it conflicts with none.
-fn slot(schema: &[u64], table: &[u64], mask: u64, i: usize) -> usize
-    requires { Checked schema.now table.now × (1 ≤ i) × (i ≤ used_at table.now) }
-    ensures { result ≡ slot_at schema.now table.now mask i }
-{
-    if !list_conflicts::records_conflict(schema, table, mask, i, i) {
-        return BUCKETS;
-    }
-    bucket(schema, table, mask, i)
-}
-
-// Whether an older record of its relation that is kept conflicts with record `i` on the key: those of its bucket are asked.
-fn is_beaten(
-    schema: &[u64],
-    table: &[u64],
-    marks: &[u8],
+// A key of a relation, with records in buckets: the youngest of each bucket, and of each record the next older one of its bucket, 0 for
+// none.
+#[derive(Drop)]
+struct Key {
     mask: u64,
-    heads: &[u16],
-    links: &[u16],
-    b: usize,
-    i: usize,
-) -> bool
-    requires { Checked schema.now table.now × (1 ≤ i) × (i ≤ used_at table.now) × (b ≡ bucket_at schema.now table.now mask i) × (b < length heads.now) × (used_at table.now ≤ length links.now) × Buckets schema.now table.now marks.now mask (relation_at table.now i) (label_at table.now i) heads.now links.now }
-    ensures { result ≡ beaten_on schema.now table.now marks.now mask i }
-{
-    let mut at = heads[b] as usize;
-    while at != 0 {
-        if list_conflicts::records_conflict(schema, table, mask, at, i) {
-            return true;
+    heads: [u16; BUCKETS],
+    links: [u16; layout::MOST_RECORDS],
+}
+
+impl Key {
+    // A key with no records.
+    fn empty(mask: u64) -> Key
+        ensures { (result.mask ≡ mask) × (result.heads ≡ replicate buckets 0) }
+    {
+        Key {
+            mask,
+            heads: [0; BUCKETS],
+            links: [0; layout::MOST_RECORDS],
         }
-        at = links[at - 1] as usize;
     }
-    false
-}
 
-// The same, of a record with its slot.
-fn is_beaten_from(
-    schema: &[u64],
-    table: &[u64],
-    marks: &[u8],
-    mask: u64,
-    heads: &[u16],
-    links: &[u16],
-    b: usize,
-    i: usize,
-) -> bool
-    requires { Checked schema.now table.now × (1 ≤ i) × (i ≤ used_at table.now) × (b ≡ slot_at schema.now table.now mask i) × (buckets ≤ length heads.now) × (used_at table.now ≤ length links.now) × Buckets schema.now table.now marks.now mask (relation_at table.now i) (label_at table.now i) heads.now links.now }
-    ensures { result ≡ beaten_on schema.now table.now marks.now mask i }
-{
-    if b == BUCKETS {
-        return false;
+    // The bucket of record `i`; none where a reference of its key is empty, so that it conflicts with none.
+    fn slot(&self, t: Judged<'_>, i: usize) -> Option<usize>
+        requires { (1 ≤ i) × (i ≤ used_at t.table.now) }
+        ensures { result ≡ slot_at t.entry.schema.now t.entry.table.now self.now.mask i }
+    {
+        if !list_conflicts::records_conflict(t, self.mask, i, i) {
+            return None;
+        }
+        Some(bucket(t, self.mask, i))
     }
-    is_beaten(schema, table, marks, mask, heads, links, b, i)
-}
 
-// Whether record `i` is beaten on the first key or on the second.
-fn is_beaten_on_either(
-    schema: &[u64],
-    table: &[u64],
-    marks: &[u8],
-    first: u64,
-    heads: &[u16],
-    links: &[u16],
-    b: usize,
-    second: u64,
-    heads2: &[u16],
-    links2: &[u16],
-    c: usize,
-    i: usize,
-) -> bool
-    requires { Checked schema.now table.now × (1 ≤ i) × (i ≤ used_at table.now) × (b ≡ slot_at schema.now table.now first i) × (buckets ≤ length heads.now) × (used_at table.now ≤ length links.now) × Buckets schema.now table.now marks.now first (relation_at table.now i) (label_at table.now i) heads.now links.now × (c ≡ slot_at schema.now table.now second i) × (buckets ≤ length heads2.now) × (used_at table.now ≤ length links2.now) × Buckets schema.now table.now marks.now second (relation_at table.now i) (label_at table.now i) heads2.now links2.now }
-    ensures { result ≡ (beaten_on schema.now table.now marks.now first i || beaten_on schema.now table.now marks.now second i) }
-{
-    is_beaten_from(schema, table, marks, first, heads, links, b, i)
-        | is_beaten_from(schema, table, marks, second, heads2, links2, c, i)
-}
-
-// The mark of record `i` taken away if it is beaten.
-fn drop_beaten(marks: &mut [u8], beaten: bool, i: usize)
-    requires { (1 ≤ i) × (i ≤ length marks.old) }
-    ensures { marks.new ≡ cond beaten (set marks.old (i - 1) 0) marks.old }
-{
-    if beaten {
-        marks[i - 1] = 0;
+    // Whether an older record of its relation that is kept conflicts with record `i`: those of its bucket are asked.
+    fn is_beaten(&self, t: Judged<'_>, marks: &[u8], slot: Option<usize>, i: usize) -> bool
+        requires { (1 ≤ i) × (i ≤ used_at t.table.now) × (slot ≡ slot_at t.schema.now t.table.now self.now.mask i) × Holds t.schema.now t.table.now marks.now (relation_at t.table.now i) (label_at t.table.now i) self.now }
+        ensures { result ≡ beaten_on t.entry.schema.now t.entry.table.now marks.now self.now.mask i }
+    {
+        let Some(b) = slot else {
+            return false;
+        };
+        let mut at = usize::from(self.heads[b]);
+        while at != 0 {
+            if list_conflicts::records_conflict(t, self.mask, at, i) {
+                return true;
+            }
+            at = usize::from(self.links[at - 1]);
+        }
+        false
     }
-}
 
-// Record `i` put at the head of its bucket, if it has one and is not beaten.
-fn link(heads: &mut [u16], links: &mut [u16], b: usize, beaten: bool, i: usize)
-    requires { (b ≤ buckets) × (buckets ≤ length heads.old) × (1 ≤ i) × (i ≤ length links.old) × (i ≤ most_records) }
-    ensures { (heads.new ≡ cond (beaten || eqb b buckets) heads.old (set heads.old b i)) × (links.new ≡ cond (beaten || eqb b buckets) links.old (set links.old (i - 1) (get_or heads.old b 0))) }
-{
-    if beaten | (b == BUCKETS) {
-        return;
+    // Record `i` put at the head of its bucket, if it has one.
+    fn link(&mut self, slot: Option<usize>, i: usize)
+        requires { (1 ≤ i) × (i ≤ most_records) × MatchOption slot (Unit {0}) (λ b. b < buckets) }
+        ensures { self.new ≡ linked self.old slot i }
+    {
+        if let Some(b) = slot {
+            self.links[i - 1] = self.heads[b];
+            self.heads[b] = i as u16;
+        }
     }
-    links[i - 1] = heads[b];
-    heads[b] = i as u16;
 }
 
 // Record `i` dropped if it is beaten on either key, and otherwise put into its buckets. The older ones that are kept are in theirs.
-fn pass(
-    schema: &[u64],
-    table: &[u64],
-    first: u64,
-    heads: &mut [u16],
-    links: &mut [u16],
-    second: u64,
-    heads2: &mut [u16],
-    links2: &mut [u16],
-    marks: &mut [u8],
-    i: usize,
-)
-    requires { Checked schema.now table.now × (1 ≤ i) × (i ≤ used_at table.now) × (used_at table.now ≤ length marks.old) × (buckets ≤ length heads.old) × (used_at table.now ≤ length links.old) × Buckets schema.now table.now marks.old first (relation_at table.now i) (label_at table.now i) heads.old links.old × (buckets ≤ length heads2.old) × (used_at table.now ≤ length links2.old) × Buckets schema.now table.now marks.old second (relation_at table.now i) (label_at table.now i) heads2.old links2.old }
-    ensures marks { marks.new ≡ cond (loses schema.now table.now marks.old first second i) (set marks.old (i - 1) 0) marks.old }
-    ensures first { Buckets schema.now table.now marks.new first (relation_at table.now i) (label_at table.now i + 1) heads.new links.new }
-    ensures second { Buckets schema.now table.now marks.new second (relation_at table.now i) (label_at table.now i + 1) heads2.new links2.new }
+fn pass(t: Judged<'_>, first: &mut Key, second: &mut Key, marks: &mut [u8], i: usize)
+    requires { (1 ≤ i) × (i ≤ used_at t.table.now) × (used_at t.table.now ≤ length marks.old) × Holds t.schema.now t.table.now marks.old (relation_at t.table.now i) (label_at t.table.now i) first.old × Holds t.schema.now t.table.now marks.old (relation_at t.table.now i) (label_at t.table.now i) second.old }
+    ensures marks { marks.new ≡ cond (loses t.entry.schema.now t.entry.table.now marks.old first.old.mask second.old.mask i) (set marks.old (i - 1) 0) marks.old }
+    ensures first { (first.new.mask ≡ first.old.mask) × Holds t.entry.schema.now t.entry.table.now marks.new (relation_at t.entry.table.now i) (label_at t.entry.table.now i + 1) first.new }
+    ensures second { (second.new.mask ≡ second.old.mask) × Holds t.entry.schema.now t.entry.table.now marks.new (relation_at t.entry.table.now i) (label_at t.entry.table.now i + 1) second.new }
 {
     if !marks::is_marked(marks, i) {
         return;
     }
-    let b = slot(schema, table, first, i);
-    let c = slot(schema, table, second, i);
-    let beaten = is_beaten_on_either(
-        schema, table, marks, first, heads, links, b, second, heads2, links2, c, i,
-    );
-    drop_beaten(marks, beaten, i);
-    link(heads, links, b, beaten, i);
-    link(heads2, links2, c, beaten, i);
+    let b = first.slot(t, i);
+    let c = second.slot(t, i);
+    let beaten = first.is_beaten(t, marks, b, i) | second.is_beaten(t, marks, c, i);
+    if beaten {
+        marks[i - 1] = 0;
+        return;
+    }
+    first.link(b, i);
+    second.link(c, i);
 }
 
 // Step 3 along the chain of relation `r`, from the oldest on. The buckets lent are empty.
-fn keep_along(
-    schema: &[u64],
-    table: &[u64],
-    r: usize,
-    first: u64,
-    heads: &mut [u16],
-    links: &mut [u16],
-    second: u64,
-    heads2: &mut [u16],
-    links2: &mut [u16],
-    marks: &mut [u8],
-)
-    requires { Checked schema.now table.now × (1 ≤ r) × (r ≤ most_relations) × (first ≡ mask_at schema.now r 1) × (second ≡ mask_at schema.now r 2) × (used_at table.now ≤ length marks.old) × Upto schema.now table.now (place r 0) marks.old × (buckets ≤ length heads.old) × (used_at table.now ≤ length links.old) × Buckets schema.now table.now marks.old first r 0 heads.old links.old × (buckets ≤ length heads2.old) × (used_at table.now ≤ length links2.old) × Buckets schema.now table.now marks.old second r 0 heads2.old links2.old }
-    ensures { Upto schema.now table.now (place (r + 1) 0) marks.new }
+fn keep_along(t: Judged<'_>, r: usize, first: &mut Key, second: &mut Key, marks: &mut [u8])
+    requires { (1 ≤ r) × (r ≤ most_relations) × (first.old.mask ≡ mask_at t.schema.now r 1) × (second.old.mask ≡ mask_at t.schema.now r 2) × (used_at t.table.now ≤ length marks.old) × Upto t.schema.now t.table.now (place r 0) marks.old × Holds t.schema.now t.table.now marks.old r 0 first.old × Holds t.schema.now t.table.now marks.old r 0 second.old }
+    ensures { Upto t.entry.schema.now t.entry.table.now (place (r + 1) 0) marks.new }
 {
-    let mut i = layout::first_at(table, r);
+    let mut i = layout::first_at(t.table, r);
     while i != 0 {
-        pass(
-            schema, table, first, heads, links, second, heads2, links2, marks, i,
-        );
-        i = layout::next_at(table, i);
+        pass(t, first, second, marks, i);
+        i = layout::next_at(t.table, i);
     }
-}
-
-// The mark of record `i` as 1 or 0.
-fn mark_of(stands: &[u8], i: usize) -> u8
-    ensures { result ≡ cond (is_marked stands.now i) 1 0 }
-{
-    if marks::is_marked(stands, i) {
-        return 1;
-    }
-    0
 }
 
 // The marks of the first `n` records copied.
@@ -236,50 +165,33 @@ fn copy_marks(stands: &[u8], marks: &mut [u8], n: usize)
     requires { n ≤ length marks.old }
     ensures { Copied stands.now n marks.new }
 {
-    let mut k: usize = 0;
-    while k < n {
-        marks[k] = mark_of(stands, k + 1);
-        k += 1;
+    for k in 0..n {
+        marks[k] = u8::from(marks::is_marked(stands, k + 1));
     }
 }
 
 // Step 3 for the records of relation `r`. Mask 0 is no key.
-fn keep_of(schema: &[u64], table: &[u64], r: usize, marks: &mut [u8])
-    requires { Checked schema.now table.now × (1 ≤ r) × (r ≤ most_relations) × (used_at table.now ≤ length marks.old) × Upto schema.now table.now (place r 0) marks.old }
-    ensures { Upto schema.now table.now (place (r + 1) 0) marks.new }
+fn keep_of(t: Judged<'_>, r: usize, marks: &mut [u8])
+    requires { (1 ≤ r) × (r ≤ most_relations) × (used_at t.table.now ≤ length marks.old) × Upto t.schema.now t.table.now (place r 0) marks.old }
+    ensures { Upto t.entry.schema.now t.entry.table.now (place (r + 1) 0) marks.new }
 {
-    let first = layout::mask_at(schema, r, 1);
-    let second = layout::mask_at(schema, r, 2);
+    let first = layout::mask_at(t.schema, r, 1);
+    let second = layout::mask_at(t.schema, r, 2);
     if (first == 0) & (second == 0) {
         return;
     }
-    let mut heads = [0u16; BUCKETS];
-    let mut links = [0u16; layout::MOST_RECORDS];
-    let mut heads2 = [0u16; BUCKETS];
-    let mut links2 = [0u16; layout::MOST_RECORDS];
-    keep_along(
-        schema,
-        table,
-        r,
-        first,
-        &mut heads,
-        &mut links,
-        second,
-        &mut heads2,
-        &mut links2,
-        marks,
-    );
+    let mut first = Key::empty(first);
+    let mut second = Key::empty(second);
+    keep_along(t, r, &mut first, &mut second, marks);
 }
 
 // Step 3: from the marks of the standing records, the marks of those kept.
-pub fn keep(schema: &[u64], table: &[u64], stands: &[u8], marks: &mut [u8])
-    requires { Checked schema.now table.now × Marked table.now (standing (schema_of schema.now) (in_order (decode table.now).records)) stands.now × (used_at table.now ≤ length marks.old) }
-    ensures { Marked table.now (kept (schema_of schema.now) (standing (schema_of schema.now) (in_order (decode table.now).records))) marks.new }
+pub fn keep(t: Judged<'_>, stands: &[u8], marks: &mut [u8])
+    requires { Marked t.table.now (standing (schema_of t.schema.now) (in_order (decode t.table.now).records)) stands.now × (used_at t.table.now ≤ length marks.old) }
+    ensures { Marked t.entry.table.now (kept (schema_of t.entry.schema.now) (standing (schema_of t.entry.schema.now) (in_order (decode t.entry.table.now).records))) marks.new }
 {
-    copy_marks(stands, marks, layout::used(table));
-    let mut r: usize = 0;
-    while r < layout::MOST_RELATIONS {
-        r += 1;
-        keep_of(schema, table, r, marks);
+    copy_marks(stands, marks, layout::used(t.table));
+    for r in 1..=layout::MOST_RELATIONS {
+        keep_of(t, r, marks);
     }
 }

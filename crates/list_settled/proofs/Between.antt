@@ -22,7 +22,7 @@ use Rattle.marks.specs.Marks.{is_marked}
 use Rattle.marks.proofs.Marks.{marked_true, true_marked}
 use Rattle.marks.proofs.Members.{in_record, member_at, holds}
 use Rattle.references.specs.Resolved.{Resolves, Marked}
-use Rattle.references.specs.Order.{Checked}
+use Rattle.judged.specs.Checked.{Checked}
 use Rattle.list_keys.proofs.Listed.{marked_has, has_marked}
 use Rattle.list_settled.specs.Rounds.{grounded_at, drops_at, dropped_at}
 use Rattle.list_settled.proofs.Grounded.{LedTo, grounded_held, held_grounded}
@@ -100,7 +100,9 @@ module _ (s t : List ℕ) (ck : Checked s t) where
   module _ (refs m : List ℕ) (rs : Resolves s t refs) (bt : Between s t m) where
     -- a shown record is grounded
     shown_grounded : (i : ℕ) → 1 ≤ i → i ≤ used_at t → has (shown_of s t) (record_of t i).key ≡ true → grounded_at refs m i ≡ true
-    shown_grounded i a l h = held_grounded s t refs m ck rs i a l (λ k g. lead k (shown_references (schema_of s) ordered (record_of t i) (member_at s t ck.schema ck.formed (shown_of s t) shown_part i a l h) k g))
+    shown_grounded i a l h =
+        let x = member_at s t ck.schema ck.formed (shown_of s t) shown_part i a l h in
+        held_grounded s t refs m ck rs i a l (λ k g. lead k (shown_references (schema_of s) ordered (record_of t i) x k g))
       where
         lead : (k : ℕ) → (y : Rec) × (y ∈ shown_of s t) × (y.key ≡ k) → LedTo t m k
         lead k y =

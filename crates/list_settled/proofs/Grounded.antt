@@ -22,7 +22,7 @@ use Rattle.wellformed.proofs.Facts.{schema_sound, formed, table_sized}
 use Rattle.wellformed.proofs.Values.{records_distinct}
 use Rattle.marks.specs.Marks.{is_marked}
 use Rattle.references.specs.Resolved.{absent, found, resolved_at, Resolves}
-use Rattle.references.specs.Order.{Checked}
+use Rattle.judged.specs.Checked.{Checked}
 use Rattle.list_settled.specs.Rounds.{leads_on, grounded_at}
 use Rattle.list_settled.proofs.Targets.{refers, aim, target_field, field_target}
 

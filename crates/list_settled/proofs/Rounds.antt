@@ -10,15 +10,14 @@ use native.Mathlib.Omega.{arith}
 use native.Mathlib.Numerals.{add-one}
 use lib.ListN.{get_or, set}
 use borrow.Author.Tests.{eq-eqb}
-use Rattle.crdt.proofs.Tests.{Tri, low, same, high, tri, test, clash, or_false, and_left}
+use Rattle.crdt.proofs.Tests.{Tri, low, same, high, tri, test, or_false, and_left}
 use Rattle.model.specs.Layout.{fields, used_at}
 use Rattle.model.specs.Lists.{each}
 use Rattle.layout.proofs.Each.{each_more}
 use Rattle.marks.specs.Marks.{is_marked}
 use Rattle.marks.proofs.Marks.{marked_true}
 use Rattle.references.specs.Resolved.{Resolves}
-use Rattle.references.specs.Order.{Checked}
-use Rattle.list_conflicts.proofs.Keys.{not_both, and_then}
+use Rattle.judged.specs.Checked.{Checked}
 use Rattle.list_settled.specs.Rounds.{leads_on, grounded_at, drops_at, dropped_at, round_of, drops_any, ones}
 use Rattle.list_settled.proofs.Between.{Between, between_drop}
 
@@ -36,19 +35,6 @@ module _ (refs m : List ℕ) (i : ℕ) where
   pub lead_all : (j : ℕ) (good : Bool) → j ≡ fields → good ≡ each j (lead_test refs m i) → good ≡ grounded_at refs m i
   unfolding grounded_at
   lead_all j good e f = rw e at f
-
-  -- a record that is to be dropped
-  pub stays_out : (x : Bool) → x ≡ is_marked m i → not x ≡ true → false ≡ drops_at refs m i
-  unfolding drops_at
-  stays_out x e n = not_both (is_marked m i) (not (grounded_at refs m i)) x e n
-
-  pub stays_in : (x y : Bool) → x ≡ is_marked m i → not x ≡ false → y ≡ grounded_at refs m i → not y ≡ drops_at refs m i
-  unfolding drops_at
-  stays_in x y e n f = and_then (is_marked m i) (not (grounded_at refs m i)) x (not y) e n (ap not f)
-
-  pub drop_yes : drops_at refs m i ≡ true → set m (i - 1) 0 ≡ dropped_at refs m i
-  unfolding dropped_at
-  drop_yes e = rw e
 
   pub drop_no : drops_at refs m i ≡ false → m ≡ dropped_at refs m i
   unfolding dropped_at
@@ -138,8 +124,8 @@ ones_round refs m (suc n) = go (drops_any refs m n) (drops_at refs (round_of ref
     go false true e f = omega arith
     go false false e f = omega arith
 
-pub round_less : (refs m : List ℕ) (n : ℕ) (a : List ℕ) (w x : Bool) → w ≡ true → x ≡ drops_any refs m n → a ≡ round_of refs m n → cond x 1 0 + ones a < cond w 1 0 + ones m
-round_less refs m n a w x g e f = rw (g, e, f) (omega (arith, ones_round refs m n))
+pub round_less : (refs m : List ℕ) (n : ℕ) (a : List ℕ) (x : Bool) → x ≡ drops_any refs m n → a ≡ round_of refs m n → x ≡ true → ones a < ones m
+round_less refs m n a x e f g = let h = rw (sym e ∙ g) at (ones_round refs m n) in rw f (omega (arith, h))
 
 -- a turn of the rounds: the marks stay between, and where nothing was dropped they are at rest
 pub turn_between : (s t refs m : List ℕ) → Checked s t → Resolves s t refs → Between s t m → (n : ℕ) (a : List ℕ) → n ≡ used_at t → a ≡ round_of refs m n → Between s t a
@@ -148,6 +134,3 @@ turn_between s t refs m ck rs bt n a e f = rw (f ∙ ap (round_of refs m) e) (ro
 pub turn_rests : (t refs m : List ℕ) (n : ℕ) (a : List ℕ) (x : Bool) → n ≡ used_at t → x ≡ drops_any refs m n → a ≡ round_of refs m n
     → x ≡ false → (i : ℕ) → 1 ≤ i → i ≤ used_at t → drops_at refs a i ≡ false
 turn_rests t refs m n a x e f g h i b l = rests refs m n a x f g h i b (omega arith)
-
-pub not_yet : (t refs m : List ℕ) → true ≡ false → (i : ℕ) → 1 ≤ i → i ≤ used_at t → drops_at refs m i ≡ false
-not_yet t refs m h i a l = clash refl h

@@ -110,7 +110,9 @@ module _ (s t : List ℕ) (b : broken s ≡ false) (w : well_formed s t ≡ true
 
   pub field_target : (j : ℕ) → 1 ≤ j → j ≤ fields → refers p (kind_at s (relation_at t i)) (value_at t i) (stamp_at t i) j ≡ true
       → aim p (kind_at s (relation_at t i)) (value_at t i) (stamp_at t i) j ∈ targets (schema_of s) p (record_of t i)
-  field_target j f g h = rw targets_are (in_leads p (kind_at s (relation_at t i)) (value_at t i) (stamp_at t i) 1 (field_count s (relation_at t i)) fields j few f (used (tri j (field_count s (relation_at t i)))) h)
+  field_target j f g h =
+      rw targets_are
+      (in_leads p (kind_at s (relation_at t i)) (value_at t i) (stamp_at t i) 1 (field_count s (relation_at t i)) fields j few f (used (tri j (field_count s (relation_at t i)))) h)
     where
       used : Tri j (field_count s (relation_at t i)) → j < 1 + field_count s (relation_at t i)
       used (low q) = omega arith

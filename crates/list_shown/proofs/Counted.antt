@@ -2,24 +2,28 @@
 -- Assumes nothing.
 use Prim.Native.Nat.{ℕ, zero, suc, ◌+◌, ◌-◌, ◌≤◌, ◌<◌}
 use mathlib.Core.Path.{◌≡◌, refl, sym, ◌∙◌, ap}
-use mathlib.Core.Bool.{Bool, true, false, cond, ◌&&◌}
+use mathlib.Core.Bool.{Bool, true, false, cond, ◌&&◌, not}
 use mathlib.Core.List.{List, [], ◌∷◌, ◌++◌, map}
 use native.Mathlib.Omega.{arith}
-use native.Mathlib.Numerals.{add-one}
 use lib.Dec.{eqb}
-use lib.ListN.{length, get_or, take, drop, set, replicate, length-map, length-take, length-append, length-replicate, get_or-replicate, get_or-append}
-use lib.Seq.{ext_get_or, get_or-take, get_or-append-add, get_or-set_same, get_or-set_other, drop-cons}
+use lib.ListN.{length, get_or, take, replicate, length-map, length-take}
+use lib.Seq.{ext_get_or, get_or-take}
 use Rattle.answers.specs.Told.{Told, told}
 use Rattle.model.specs.Layout.{capacity_of, used_at}
-use Rattle.model.specs.Lists.{only, lowest}
+use Rattle.model.specs.Lists.{only, check, lowest}
+use Rattle.answers.specs.declared.Refusal.{Refusal}
+use Rattle.answers.specs.Refused.{refusal_number}
+use Rattle.answers.proofs.Told.{refused_above}
+use Rattle.std.specs.List.{count_by}
+use Rattle.std.proofs.lemmas.List.Recursion.{is_count_by}
 use Rattle.model.specs.Schemas.{broken, schema_of}
 use Rattle.model.specs.Records.{Rec, has, in_order}
 use Rattle.model.specs.Tables.{record_of, decode}
 use Rattle.model.specs.WellFormed.{well_formed}
 use Rattle.model.specs.Shown.{shown}
 use Rattle.model.specs.Calls.{schema_length, table_length, marks_length, marks_of, marks_number, marks_count, marks_marks}
-use Rattle.crdt.proofs.Tests.{Tri, low, same, high, tri, and_left, and_right}
-use borrow.Author.Tests.{eqb-true}
+use Rattle.crdt.proofs.Tests.{and_left, and_right}
+use borrow.Author.Tests.{eqb-true, ne_eqb}
 use Rattle.laws.proofs.Lists.{◌∈◌, only_in, in_only}
 use Rattle.laws.proofs.Order.{order_rising, order_length}
 use Rattle.laws.proofs.Members.{read_in_order, in_order_lem, order_in}
@@ -32,29 +36,18 @@ use Rattle.marks.proofs.Members.{records_once, in_record, member_at}
 use Rattle.laws.proofs.Shown.{in_has}
 use Rattle.list_keys.proofs.Listed.{mark}
 use Rattle.references.specs.Resolved.{Marked}
-use Rattle.references.specs.Order.{Checked}
+use Rattle.judged.specs.Checked.{Checked}
 use Rattle.list_settled.specs.Rounds.{ones}
 use Rattle.list_settled.proofs.Between.{shown_of, shown_part}
 
--- how many marks are 1, taken from the front
-pub ones_end : (m : List ℕ) (i n : ℕ) → length m ≤ i → n + ones (drop i m) ≡ ones m → n ≡ ones m
+-- how many marks are 1
+pub ones_count : (m : List ℕ) → count_by (λ x. eqb x 1) m ≡ ones m
 unfolding ones
-ones_end m i n h e = let z : ones (drop i m) ≡ 0 = rw (past m i h) in omega arith
+ones_count m = sym (is_count_by ones (λ x. eqb x 1) refl (λ x xs. go (eqb x 1) (ones xs)) m)
   where
-    past : (m : List ℕ) (i : ℕ) → length m ≤ i → drop i m ≡ []
-    past [] zero h = refl
-    past [] (suc i) h = refl
-    past (x ∷ m) zero h = absurd (omega arith)
-    past (x ∷ m) (suc i) h = past m i (omega arith)
-
-pub ones_start : (m : List ℕ) → 0 + ones (drop 0 m) ≡ ones m
-ones_start m = omega arith
-
-pub ones_more : (m : List ℕ) (i n x : ℕ) → i < length m → x ≡ cond (eqb (get_or m i 0) 1) 1 0 → n + ones (drop i m) ≡ ones m → (n + x) + ones (drop (i + 1) m) ≡ ones m
-unfolding ones
-ones_more m i n x h e f =
-    let z : ones (drop i m) ≡ cond (eqb (get_or m i 0) 1) 1 0 + ones (drop (suc i) m) = rw (drop-cons m i 0 h) in
-    rw (add-one i) (omega (arith, z, e, f))
+    go : (b : Bool) (n : ℕ) → cond b 1 0 + n ≡ cond b (1 + n) n
+    go true n = refl
+    go false n = omega arith
 
 ones_append : (a : List ℕ) (n : ℕ) → ones (a ++ replicate n 0) ≡ ones a
 unfolding ones
@@ -157,72 +150,30 @@ module _ (s t m : List ℕ) where
   unfolding marks_length
   rights h =
       let c = and_left (schema_length s && table_length t) (marks_length t m) h in
-      (and_left (schema_length s) (table_length t) c, and_right (schema_length s) (table_length t) c, eqb-true (length m) (capacity_of t) (and_right (schema_length s && table_length t) (marks_length t m) h))
+      let d = and_right (schema_length s && table_length t) (marks_length t m) h in
+      (and_left (schema_length s) (table_length t) c, and_right (schema_length s) (table_length t) c, eqb-true (length m) (capacity_of t) d)
 
   pub told_length : right ≡ false → (told 1 0 ≡ answer) × (m ≡ marks_marks s t m)
   unfolding marks_number marks_count marks_marks lowest
   told_length h = (rw h, rw h)
 
-  pub told_schema : right ≡ true → broken s ≡ true → (told 2 0 ≡ answer) × (m ≡ marks_marks s t m)
-  unfolding marks_number marks_count marks_marks lowest
-  told_schema h b = (rw (h, b), rw (h, b))
+  -- after check 1 the number is that of checks 2 and 3
+  judged_number : right ≡ true → (n : ℕ) → n ≡ lowest (check 2 (broken s) ∷ check 3 (not (well_formed s t)) ∷ []) → n ≡ marks_number s t m
+  unfolding marks_number lowest
+  judged_number h n e = rw h e
 
-  pub told_table : right ≡ true → broken s ≡ false → well_formed s t ≡ false → (told 3 0 ≡ answer) × (m ≡ marks_marks s t m)
-  unfolding marks_number marks_count marks_marks lowest
-  told_table h b w = (rw (h, b, w), rw (h, b, w))
+  pub told_refused : right ≡ true → (e : Refusal) → refusal_number e ≡ lowest (check 2 (broken s) ∷ check 3 (not (well_formed s t)) ∷ [])
+      → (told (refusal_number e) 0 ≡ answer) × (m ≡ marks_marks s t m)
+  unfolding marks_count marks_marks
+  told_refused h e f =
+      let n = judged_number h (refusal_number e) f in
+      let z : eqb (marks_number s t m) 0 ≡ false = ne_eqb (marks_number s t m) 0 (λ q. refused_above e (n ∙ q)) in
+      rw (z, n) (refl, refl)
 
-  pub told_marked : (n : ℕ) (a : List ℕ) → right ≡ true → broken s ≡ false → well_formed s t ≡ true → n ≡ length (shown (schema_of s) (in_order (decode t).records)) → a ≡ marks_of s t
-      → (told 0 n ≡ answer) × (a ≡ marks_marks s t m)
-  unfolding marks_number marks_count marks_marks lowest
-  told_marked n a h b w e f = (rw (h, b, w, e), rw (h, b, w, f))
-
--- marks from `used` on cleared, as far as i
-pub record Cleared (m₀ m : List ℕ) (used i : ℕ) : Type 0 where
-  pub front : (k : ℕ) → k < used → get_or m k 0 ≡ get_or m₀ k 0
-  pub back : (k : ℕ) → used ≤ k → k < i → get_or m k 0 ≡ 0
-
-pub cleared_none : (m : List ℕ) (used : ℕ) → Cleared m m used used
-cleared_none m used = record { front = λ k h. refl; back = λ k h g. absurd (omega arith) }
-
-pub cleared_more : (m₀ m : List ℕ) (used i : ℕ) → Cleared m₀ m used i → used ≤ i → i < length m → Cleared m₀ (set m i 0) used (i + 1)
-cleared_more m₀ m used i c l h =
-    record {
-      front = λ k g. let n : k ≡ i → ⊥ = λ e. omega arith in get_or-set_other m i k 0 0 n ∙ c.front k g;
-      back = λ k f g. go k f g (tri k i);
-    }
-  where
-    go : (k : ℕ) → used ≤ k → k < i + 1 → Tri k i → get_or (set m i 0) k 0 ≡ 0
-    go k f g (low q) = let n : k ≡ i → ⊥ = λ e. omega arith in get_or-set_other m i k 0 0 n ∙ c.back k f q
-    go k f g (same q) = rw q (get_or-set_same m i 0 0 h)
-    go k f g (high q) = absurd (omega arith)
-
-pub cleared_all : (m₀ m : List ℕ) (used i : ℕ) → Cleared m₀ m used i → length m ≤ i → length m ≡ length m₀ → used ≤ length m₀
-    → m ≡ take used m₀ ++ replicate (length m₀ - used) 0
-cleared_all m₀ m used i c l e u =
-    ext_get_or 0 m (take used m₀ ++ replicate (length m₀ - used) 0)
-    (simp (length-append, length-take, length-replicate) (omega arith))
-    (λ k h. go k h (tri k used))
-  where
-    n : length (take used m₀) ≡ used
-    n = length-take used m₀ ∙ omega arith
-
-    later : (k : ℕ) → used ≤ k → k < length m → get_or (take used m₀ ++ replicate (length m₀ - used) 0) k 0 ≡ 0
-    later k g h =
-        let q : k ≡ length (take used m₀) + (k - used) = omega (arith, n) in
-        ap (λ (j : ℕ). get_or (take used m₀ ++ replicate (length m₀ - used) 0) j 0) q
-        ∙ get_or-append-add (take used m₀) (replicate (length m₀ - used) 0) (k - used) 0 ∙ get_or-replicate (length m₀ - used) (k - used) 0 0 (omega arith)
-
-    go : (k : ℕ) → k < length m → Tri k used → get_or m k 0 ≡ get_or (take used m₀ ++ replicate (length m₀ - used) 0) k 0
-    go k h (low q) = c.front k q ∙ sym (get_or-append (take used m₀) (replicate (length m₀ - used) 0) 0 k (omega (arith, n)) ∙ get_or-take used m₀ k 0 q)
-    go k h (same q) = c.back k (omega arith) (omega arith) ∙ sym (later k (omega arith) h)
-    go k h (high q) = c.back k (omega arith) (omega arith) ∙ sym (later k (omega arith) h)
-
-pub one_most : (m x : ℕ) → x ≡ cond (eqb m 1) 1 0 → x ≤ 1
-one_most m x e = rw e (go (eqb m 1))
-  where
-    go : (b : Bool) → cond b 1 0 ≤ 1
-    go true = omega arith
-    go false = omega arith
+  pub told_marked : (n : ℕ) (a : List ℕ) → right ≡ true → 0 ≡ lowest (check 2 (broken s) ∷ check 3 (not (well_formed s t)) ∷ [])
+      → n ≡ length (shown (schema_of s) (in_order (decode t).records)) → a ≡ marks_of s t → (told 0 n ≡ answer) × (a ≡ marks_marks s t m)
+  unfolding marks_count marks_marks
+  told_marked n a h z e f = let q = sym (judged_number h 0 z) in (rw (q, e), rw (q, f))
 
 -- lengths as the call found them
 pub right_of : (s t m : List ℕ) (a b c x : Bool) → a ≡ schema_length s → b ≡ table_length t → c ≡ marks_length t m → (a && b && c) ≡ x → right s t m ≡ x

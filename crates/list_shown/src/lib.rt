@@ -1,27 +1,29 @@
 // Steps 3 and 4 of the shown list over resolved references, and the shown marks of a table.
 #![tactic(auto)]
 
-ghost use Rattle.std.specs.Prelude.{◌≡◌, cond, ◌++◌, ◌+◌, ◌*◌, ◌-◌, ◌≤◌, eqb, length, take, replicate};
-ghost use Rattle.answers.specs.Told.{told, marks_told};
-ghost use Rattle.model.specs.Layout.{fields, used_at};
+ghost use Rattle.std.specs.Prelude.{◌≡◌, ◌++◌, ◌*◌, ◌-◌, ◌≤◌, length, take, replicate};
+ghost use Rattle.answers.specs.Told.{told};
+ghost use Rattle.answers.specs.Refused.{value_told};
+ghost use Rattle.model.specs.Layout.{used_at};
 ghost use Rattle.model.specs.Schemas.{schema_of};
 ghost use Rattle.model.specs.Records.{in_order};
 ghost use Rattle.model.specs.Tables.{decode};
 ghost use Rattle.model.specs.Shown.{standing, shown};
 ghost use Rattle.model.specs.Calls.{marks_number, marks_count, marks_marks};
-ghost use Rattle.references.specs.Resolved.{Resolves, Marked};
-ghost use Rattle.references.specs.Order.{Checked};
+ghost use Rattle.references.specs.Resolved.{Marked};
 ghost use Rattle.list_settled.specs.Rounds.{ones};
 
-use answers::MarksAnswer;
+use answers::Refusal;
+use judged::Judged;
+use references::Resolved;
 
 // Steps 3 and 4: from resolved references and the marks of the standing records, the marks of the shown ones.
-pub fn show(schema: &[u64], table: &[u64], refs: &[u16], stands: &[u8], marks: &mut [u8])
-    requires { Checked schema.now table.now × Resolves schema.now table.now refs.now × Marked table.now (standing (schema_of schema.now) (in_order (decode table.now).records)) stands.now × (fields * used_at table.now ≤ length refs.now) × (used_at table.now ≤ length marks.old) }
-    ensures { Marked table.now (shown (schema_of schema.now) (in_order (decode table.now).records)) marks.new }
+pub fn show(resolved: Resolved<'_>, stands: &[u8], marks: &mut [u8])
+    requires { Marked resolved.t.table.now (standing (schema_of resolved.t.schema.now) (in_order (decode resolved.t.table.now).records)) stands.now × (used_at resolved.t.table.now ≤ length marks.old) }
+    ensures { Marked resolved.entry.t.table.now (shown (schema_of resolved.entry.t.schema.now) (in_order (decode resolved.entry.t.table.now).records)) marks.new }
 {
-    list_keys::keep(schema, table, stands, marks);
-    list_settled::settle(schema, table, refs, marks);
+    list_keys::keep(resolved.t, stands, marks);
+    list_settled::settle(resolved, marks);
 }
 
 // Marks above the used records set to 0.
@@ -29,65 +31,42 @@ fn clear_above(marks: &mut [u8], used: usize)
     requires { used ≤ length marks.old }
     ensures { marks.new ≡ take used marks.old ++ replicate (length marks.old - used) 0 }
 {
-    let mut i = used;
-    while i < marks.len() {
-        marks[i] = 0;
-        i += 1;
-    }
-}
-
-// 1 for a mark that is 1, and 0 for any other.
-fn one(mark: u8) -> usize
-    ensures { result ≡ cond (eqb mark 1) 1 0 }
-{
-    if mark == 1 {
-        return 1;
-    }
-    0
+    marks[used..].fill(0);
 }
 
 // How many marks are 1.
+#[tactic(auto, using(crate::proofs::Counted::ones_count))]
 fn count(marks: &[u8]) -> usize
     ensures { result ≡ ones marks.now }
 {
-    let mut n: usize = 0;
-    let mut i: usize = 0;
-    while i < marks.len() {
-        n = n + one(marks[i]);
-        i += 1;
-    }
-    n
+    marks.iter().filter(|m| **m == 1).count()
 }
 
 // Steps 1 to 4 for a table that is judged already.
-pub fn mark_shown(schema: &[u64], table: &[u64], marks: &mut [u8])
-    requires { Checked schema.now table.now × (used_at table.now ≤ length marks.old) }
-    ensures { Marked table.now (shown (schema_of schema.now) (in_order (decode table.now).records)) marks.new }
+pub fn mark_shown(t: Judged<'_>, marks: &mut [u8])
+    requires { used_at t.table.now ≤ length marks.old }
+    ensures { Marked t.entry.table.now (shown (schema_of t.entry.schema.now) (in_order (decode t.entry.table.now).records)) marks.new }
 {
     let mut refs = [0u16; layout::FIELDS * layout::MOST_RECORDS];
     let mut stands = [0u8; layout::MOST_RECORDS];
-    references::resolve(schema, table, &mut refs);
-    list_standing::stand(schema, table, &refs, &mut stands);
-    show(schema, table, &refs, &stands, marks);
+    references::resolve(t, &mut refs);
+    let resolved = Resolved { t, refs: &refs };
+    list_standing::stand(resolved, &mut stands);
+    show(resolved, &stands, marks);
 }
 
 // The shown marks of a table, and how many records are shown.
-pub fn marks(schema: &[u64], table: &[u64], marks: &mut [u8]) -> MarksAnswer
-    ensures { (marks_told result ≡ told (marks_number schema.now table.now marks.old) (marks_count schema.now table.now marks.old)) × (marks.new ≡ marks_marks schema.now table.now marks.old) }
+pub fn marks(schema: &[u64], table: &[u64], marks: &mut [u8]) -> Result<usize, Refusal>
+    ensures { (value_told result ≡ told (marks_number schema.now table.now marks.old) (marks_count schema.now table.now marks.old)) × (marks.new ≡ marks_marks schema.now table.now marks.old) }
 {
     let lengths = layout::schema_length(schema)
         & layout::table_length(table)
         & layout::marks_length(table, marks);
     if !lengths {
-        return MarksAnswer::WrongLength;
+        return Err(Refusal::WrongLength);
     }
-    if schema::is_broken(schema) {
-        return MarksAnswer::SchemaBroken;
-    }
-    if !table::well_formed(schema, table) {
-        return MarksAnswer::TableBroken;
-    }
-    mark_shown(schema, table, marks);
+    let t = judged::judge(schema, table)?;
+    mark_shown(t, marks);
     clear_above(marks, layout::used(table));
-    MarksAnswer::Marked(count(marks))
+    Ok(count(marks))
 }

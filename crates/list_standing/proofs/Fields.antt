@@ -10,17 +10,17 @@ use native.Mathlib.Omega.{arith}
 use lib.Dec.{eqb}
 use borrow.Author.Tests.{eqb-false, eq-eqb, ne_eqb}
 use Rattle.crdt.specs.Cells.{Reg, reg}
-use Rattle.crdt.specs.Flags.{is_even}
 use Rattle.crdt.proofs.Tests.{Tri, low, same, high, tri, test, and_left, and_right, and_both, not_true, not_false}
-use Rattle.model.specs.Layout.{fields, relations, field_count, kind_at, used_at, relation_at, flag_at, value_at, stamp_at}
+use Rattle.model.specs.Layout.{fields, relations, field_count, kind_at, used_at, relation_at, value_at, stamp_at}
 use Rattle.model.specs.Lists.{from, listed}
 use Rattle.model.specs.Schemas.{leads_to, schema_of}
 use Rattle.model.specs.Records.{label_span, place}
 use Rattle.model.specs.Tables.{record_of}
-use Rattle.model.specs.Shown.{described, stamped, complete, leads, targets, live}
+use Rattle.model.specs.Shown.{described, stamped, complete, leads, targets}
 use Rattle.laws.proofs.Lists.{◌∈◌}
 use Rattle.wellformed.proofs.Values.{kinds_of_lem}
-use Rattle.references.specs.Order.{Checked, key_at}
+use Rattle.judged.specs.Checked.{Checked}
+use Rattle.references.specs.Order.{key_at}
 use Rattle.references.proofs.Places.{relation_least, relation_known, fields_most, key_relation}
 
 module _ (kind v st : ℕ → ℕ) where
@@ -52,7 +52,8 @@ module _ (kind v st : ℕ → ℕ) where
       go (high m) ih = absurd (omega arith)
 
   module _ (p : ℕ → Bool) where
-    leads_in : (a F n j : ℕ) → F ≤ n → a ≤ j → j < a + F → p (kind j) ≡ true → (v j ≡ 0 → ⊥) → place (leads_to (kind j)) (v j) ∈ leads p (from a F kind) (from a n registers)
+    leads_in : (a F n j : ℕ) → F ≤ n → a ≤ j → j < a + F → p (kind j) ≡ true → (v j ≡ 0 → ⊥)
+        → place (leads_to (kind j)) (v j) ∈ leads p (from a F kind) (from a n registers)
     unfolding leads from
     leads_in a zero n j l b c q z = absurd (omega arith)
     leads_in a (suc F) zero j l b c q z = absurd (omega arith)
@@ -146,18 +147,6 @@ module _ (s t : List ℕ) (c : Checked s t) (i : ℕ) (a : 1 ≤ i) (b : i ≤ u
     in_target k h =
         in_leads (kind_at s (relation_at t i)) (value_at t i) (stamp_at t i) p 1 count fields k (fields_most s t c i a b) (rw (kinds_is, regs_is) at h)
 
-pub live_is : (s t : List ℕ) (i f : ℕ) (b : Bool) → b ≡ complete (schema_of s) (record_of t i) → f ≡ flag_at t i → (b && is_even f) ≡ live (schema_of s) (record_of t i)
-unfolding live record_of
-live_is s t i f b e q = rw (e, q)
-
--- the number of fields of a record, and its stamps one by one
+-- the number of fields of a record
 pub count_is : (s t : List ℕ) (i r n : ℕ) → r ≡ relation_at t i → n ≡ field_count s r → n ≡ field_count s (relation_at t i)
 count_is s t i r n e f = f ∙ ap (field_count s) e
-
-pub stamps_more : (t : List ℕ) (i l : ℕ) → ((q : ℕ) → 1 ≤ q → q < l → stamp_at t i q ≡ 0 → ⊥) → (stamp_at t i l ≡ 0 → ⊥) → (q : ℕ) → 1 ≤ q → q < l + 1 → stamp_at t i q ≡ 0 → ⊥
-stamps_more t i l h n q a b = go (tri q l)
-  where
-    go : Tri q l → stamp_at t i q ≡ 0 → ⊥
-    go (low p) = h q a p
-    go (same p) = rw p n
-    go (high p) = absurd (omega arith)

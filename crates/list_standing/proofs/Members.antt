@@ -6,26 +6,24 @@ use mathlib.Core.Bool.{true, false, ◌&&◌, not}
 use mathlib.Core.List.Memᴰ
 use mathlib.Core.List.{List, [], ◌∷◌}
 use mathlib.Core.Logic.{◌⊎◌, inl, inr}
-use mathlib.Core.Option.{Option, some}
 use native.Mathlib.Omega.{arith}
 use lib.Dec.{eqb}
 use lib.ListN.{length, get_or}
 use borrow.Author.Tests.{eqb-false, ne_eqb}
-use Rattle.crdt.specs.Cells.{Cell}
 use Rattle.crdt.proofs.Tests.{test, and_left, and_right, not_true}
 use Rattle.model.specs.Layout.{field_count, kind_at, used_at, relation_at, value_at}
 use Rattle.model.specs.Schemas.{is_reference, is_abort, leads_to, schema_of}
-use Rattle.model.specs.Records.{Rec, place, has, in_order, Distinct, at, position}
+use Rattle.model.specs.Records.{Rec, place, has, in_order, Distinct, position}
 use Rattle.model.specs.Tables.{decode, record_of}
-use Rattle.model.specs.Shown.{complete, live, standing}
+use Rattle.model.specs.Shown.{complete, live}
 use Rattle.laws.proofs.Lists.{◌∈◌}
-use Rattle.laws.proofs.Order.{order_rising, at_order}
-use Rattle.laws.proofs.Members.{at_member, rising_distinct, one_record}
+use Rattle.laws.proofs.Members.{one_record}
 use Rattle.laws.proofs.Valid.{distinct_true}
 use Rattle.laws.proofs.Drafts.{has_order}
 use Rattle.laws.proofs.Shown.{has_in, in_has, standing_in, standing_live, standing_closed}
 use Rattle.wellformed.proofs.Follow.{no_rec, record_at, position_within, position_none, position_some}
-use Rattle.references.specs.Order.{Checked, key_at}
+use Rattle.judged.specs.Checked.{Checked}
+use Rattle.references.specs.Order.{key_at}
 use Rattle.references.specs.Resolved.{absent, found, resolved_at}
 use Rattle.references.proofs.Places.{Spot, spot, used_most, recs_length, recs_distinct, at_position, has_key, position_is}
 use Rattle.list_standing.specs.Work.{standing_of}
@@ -94,7 +92,8 @@ module _ (s t : List ℕ) (c : Checked s t) where
           let q = position_some k recs h in
           sym q.keyed ∙ ap (λ (n : ℕ). (record_at recs n).key) f' ∙ ap (λ (x : Rec). x.key) (at_position s t c p a b)
 
-      go : ((is_reference (kind_at s (relation_at t i) j) && not (eqb (value_at t i j) 0)) ≡ true) ⊎ ((is_reference (kind_at s (relation_at t i) j) && not (eqb (value_at t i j) 0)) ≡ false) → Led i j p
+      go : ((is_reference (kind_at s (relation_at t i) j) && not (eqb (value_at t i j) 0)) ≡ true)
+          ⊎ ((is_reference (kind_at s (relation_at t i) j) && not (eqb (value_at t i j) 0)) ≡ false) → Led i j p
       go (inl r) =
           record {
             reference = and_left (is_reference (kind_at s (relation_at t i) j)) _ r;
@@ -132,6 +131,7 @@ module _ (s t : List ℕ) (c : Checked s t) where
       there (inl q) f = absurd (n (rw q at f))
       there (inr q) f = let f' : p ≡ position k recs = rw q at f in (omega arith, omega (arith, position_within k recs, recs_length s t c))
 
-      go : ((is_reference (kind_at s (relation_at t i) j) && not (eqb (value_at t i j) 0)) ≡ true) ⊎ ((is_reference (kind_at s (relation_at t i) j) && not (eqb (value_at t i j) 0)) ≡ false) → (1 ≤ p) × (p ≤ used_at t)
+      go : ((is_reference (kind_at s (relation_at t i) j) && not (eqb (value_at t i j) 0)) ≡ true)
+          ⊎ ((is_reference (kind_at s (relation_at t i) j) && not (eqb (value_at t i j) 0)) ≡ false) → (1 ≤ p) × (p ≤ used_at t)
       go (inl r) = there (test (eqb (position k recs) 0)) (rw r at e)
       go (inr r) = absurd (z (rw r at e))

@@ -9,42 +9,22 @@ use native.Mathlib.Omega.{arith}
 use lib.Dec.{eqb, leb, ltb}
 use lib.ListN.{length, get_or, set, replicate, length-replicate}
 use lib.Seq.{get_or-set_same, get_or-set_other}
-use borrow.Author.Tests.{eqb-true, eqb-false, le-leb, lt-leb, lt-ltb, le-ltb}
+use borrow.Author.Tests.{eqb-true, eqb-false, le-leb, lt-ltb}
 use Rattle.crdt.proofs.Tests.{Tri, low, same, high, tri, test, clash, and_left}
-use Rattle.model.specs.Layout.{field_count, kind_at, used_at, relation_at}
+use Rattle.model.specs.Layout.{most_records, field_count, kind_at, used_at, relation_at}
 use Rattle.model.specs.Schemas.{is_reference, is_abort, abort_kinds, propagation_kinds, schema_of}
 use Rattle.model.specs.Records.{Rec, has, in_order}
 use Rattle.model.specs.Tables.{decode, record_of}
 use Rattle.model.specs.Shown.{complete, live, targets}
 use Rattle.laws.proofs.Lists.{◌∈◌}
 use Rattle.laws.proofs.Shown.{has_in, standing_least}
-use Rattle.references.specs.Order.{Checked, key_at}
+use Rattle.judged.specs.Checked.{Checked}
+use Rattle.references.specs.Order.{key_at}
 use Rattle.references.specs.Resolved.{absent, resolved_at, Marked}
 use Rattle.references.proofs.Room.{room, room_more}
-use Rattle.list_standing.specs.Work.{standing_of, mark_of, Clear, Added, Queue, More, Live, Target, Hopped, Visited}
+use Rattle.list_standing.specs.Work.{standing_of, mark_of, Added, Queue, More, Live, Target, Hopped, Visited}
 use Rattle.list_standing.proofs.Fields.{in_target}
 use Rattle.list_standing.proofs.Members.{order_is, order_spot, leads_back, resolved_within}
-
--- no record yet
-pub queue_none : (s t m w : List ℕ) → Clear (used_at t) m → Queue s t m w 0
-queue_none s t m w z =
-    record {
-      least = λ k l. absurd (omega arith);
-      within = λ k l. absurd (omega arith);
-      once = λ j k l h. absurd (omega arith);
-      marked = λ k l. absurd (omega arith);
-      queued = λ i a b h. absurd (omega (arith, z.at (i - 1) (omega arith)));
-      zero = λ i a b h. z.at (i - 1) (omega arith);
-      stands = λ i a b h. absurd (omega (arith, z.at (i - 1) (omega arith)));
-    }
-
--- as many as another number says
-pub clear_to : (n u : ℕ) (m : List ℕ) → n ≡ u → Clear n m → Clear u m
-clear_to n u m e c = rw e at c
-
--- an array as long as another, and one of zeros
-pub long_as : (u : ℕ) (a b : List ℕ) → length a ≡ length b → u ≤ length b → u ≤ length a
-long_as u a b e h = omega arith
 
 pub zeros_room : (m n : ℕ) → n ≤ m → n ≤ length (replicate {A = ℕ} m 0)
 zeros_room m n h = omega (arith, length-replicate {A = ℕ} m 0)
@@ -53,7 +33,8 @@ zeros_room m n h = omega (arith, length-replicate {A = ℕ} m 0)
 pub more_same : (t m w : List ℕ) (n : ℕ) → More t m w n m w n
 more_same t m w n = record { grows = omega arith; keeps = λ i a b h. h; same = λ k l. refl }
 
-pub more_more : (t m w : List ℕ) (n : ℕ) (m₁ w₁ : List ℕ) (n₁ : ℕ) (m₂ w₂ : List ℕ) (n₂ : ℕ) → More t m w n m₁ w₁ n₁ → More t m₁ w₁ n₁ m₂ w₂ n₂ → More t m w n m₂ w₂ n₂
+pub more_more : (t m w : List ℕ) (n : ℕ) (m₁ w₁ : List ℕ) (n₁ : ℕ) (m₂ w₂ : List ℕ) (n₂ : ℕ)
+    → More t m w n m₁ w₁ n₁ → More t m₁ w₁ n₁ m₂ w₂ n₂ → More t m w n m₂ w₂ n₂
 more_more t m w n m₁ w₁ n₁ m₂ w₂ n₂ p q =
     record {
       grows = omega (arith, p.grows, q.grows);
@@ -68,6 +49,11 @@ module _ (s t m w : List ℕ) (n : ℕ) (q : Queue s t m w n) where
 
   pub queue_more : (p : ℕ) → 1 ≤ p → p ≤ used_at t → (mark_of m p ≡ 1 → ⊥) → n < used_at t
   queue_more p a b u = room_more w (used_at t) n q.least q.within q.once p a b (λ k l e. u (rw e at (q.marked k l)))
+
+  -- a record without a mark has its place in both arrays
+  pub add_room : (p : ℕ) → 1 ≤ p → p ≤ used_at t → used_at t ≤ length m → used_at t ≤ most_records
+      → (1 ≤ p) × (p ≤ length m) × (p ≤ most_records) × ((mark_of m p ≡ 1 → ⊥) → n < most_records)
+  add_room p a b lm l = (a, omega arith, omega arith, λ u. omega (arith, queue_more p a b u))
 
 -- what a record that stands leaves behind when it is added
 pub record Step (s t m w : List ℕ) (n p : ℕ) (m' w' : List ℕ) (n' : ℕ) : Type 0 where
@@ -157,52 +143,16 @@ module _ (s t m w : List ℕ) (n p : ℕ) (q : Queue s t m w n) (a : 1 ≤ p) (b
       go (inr e) = let h = eqb-false (mark_of m p) 1 e in let r = d.new h in rw (r.0, r.1, r.2) (step_new h)
 
 -- what a hop leads to
-module _ (s t : List ℕ) (i j r k : ℕ) (er : r ≡ relation_at t i) (ek : k ≡ kind_at s r j) where
-  kind : kind_at s (relation_at t i) j ≡ k
-  kind = rw (← er) (sym ek)
-
-  not_abort : is_abort k ≡ false → Target s t i j 0
-  not_abort f =
-      record {
-        none = λ z p h. clash (rw kind at h) f;
-        within = omega arith;
-        abort = λ z. absurd (z refl);
-        there = λ z. absurd (z refl);
-      }
-
-  pub target_below : k < abort_kinds → Target s t i j 0
-  target_below l = not_abort (rw (lt-leb abort_kinds k l))
-
-  pub target_propagation : abort_kinds ≤ k → propagation_kinds ≤ k → Target s t i j 0
-  target_propagation l h = not_abort (rw (le-leb abort_kinds k l, le-ltb k propagation_kinds h))
-
-  pub target_empty : (p : ℕ) → p ≡ resolved_at s t i j → p ≡ 0 → Target s t i j 0
-  target_empty p e z =
-      record {
-        none = λ y x h a b f. omega arith;
-        within = omega arith;
-        abort = λ y. absurd (y refl);
-        there = λ y. absurd (y refl);
-      }
-
-  module _ (c : Checked s t) (small : used_at t < absent) (p : ℕ) (e : p ≡ resolved_at s t i j) where
-    pub target_absent : p ≡ absent → Target s t i j 0
-    target_absent z =
-        record {
-          none = λ y x h a b f. omega arith;
-          within = omega arith;
-          abort = λ y. absurd (y refl);
-          there = λ y. absurd (y refl);
-        }
-
-    pub target_there : abort_kinds ≤ k → k < propagation_kinds → (p ≡ 0 → ⊥) → (p ≡ absent → ⊥) → Target s t i j p
-    target_there l h z y =
-        record {
-          none = λ x. absurd (z x);
-          within = (resolved_within s t c i j p e z y).1;
-          abort = λ x. rw (kind, le-leb abort_kinds k l, lt-ltb k propagation_kinds h);
-          there = λ x. sym e;
-        }
+pub target_there : (s t : List ℕ) (i j p : ℕ) → p ≡ resolved_at s t i j → Checked s t → (r k : ℕ) → r ≡ relation_at t i → k ≡ kind_at s r j
+    → abort_kinds ≤ k → k < propagation_kinds → (p ≡ 0 → ⊥) → (p ≡ absent → ⊥) → Target s t i j p
+target_there s t i j p e c r k er ek l h z y =
+    let w = resolved_within s t c i j p e z y in
+    record {
+      least = w.0;
+      within = w.1;
+      abort = rw (← er, ← ek, le-leb abort_kinds k l, lt-ltb k propagation_kinds h);
+      there = sym e;
+    }
 
 -- hops stay hops
 module _ (s t : List ℕ) (m w : List ℕ) (n : ℕ) (m' w' : List ℕ) (n' : ℕ) (more : More t m w n m' w' n') where
@@ -213,43 +163,21 @@ module _ (s t : List ℕ) (m w : List ℕ) (n : ℕ) (m' w' : List ℕ) (n' : �
   visited_keep i l v = record { at = λ j a b. hopped_more i j (v.at j a b) }
 
   -- one field more
-  pub visited_more : (i l : ℕ) → Visited s t m i l → Hopped s t m' i (l + 1) → Visited s t m' i (l + 1)
-  visited_more i l v h = record { at = λ j a b. go j a b (tri j (l + 1)) }
+  pub visited_more : (i j n : ℕ) → Visited s t m i (j - 1) → Hopped s t m' i j → n ≤ j → Visited s t m' i n
+  visited_more i j n v h l = record { at = λ k a b. go k a b (tri k j) }
     where
-      go : (j : ℕ) → 1 ≤ j → j ≤ l + 1 → Tri j (l + 1) → Hopped s t m' i j
-      go j a b (low d) = hopped_more i j (v.at j a (omega arith))
-      go j a b (same d) = rw d h
-      go j a b (high d) = absurd (omega arith)
+      go : (k : ℕ) → 1 ≤ k → k ≤ n → Tri k j → Hopped s t m' i k
+      go k a b (low d) = hopped_more i k (v.at k a (omega arith))
+      go k a b (same d) = rw d h
+      go k a b (high d) = absurd (omega arith)
 
-pub visited_none : (s t m : List ℕ) (i : ℕ) → Visited s t m i 0
-visited_none s t m i = record { at = λ j a b. absurd (omega arith) }
-
--- the hop of one field, by what it leads to
 module _ (s t m : List ℕ) (i j p : ℕ) (g : Target s t i j p) where
-  pub hop_none : p ≡ 0 → Hopped s t m i j
-  hop_none z = record { onto = λ r k a b e q. absurd (g.none z r k a b e) }
-
-  pub hop_incomplete : (p ≡ 0 → ⊥) → complete (schema_of s) (record_of t p) ≡ false → Hopped s t m i j
-  hop_incomplete z f = record { onto = λ r k a b e q. clash q (rw (sym (g.there z) ∙ e) at f) }
-
-  pub hop_marked : (p ≡ 0 → ⊥) → mark_of m p ≡ 1 → Hopped s t m i j
-  hop_marked z h = record { onto = λ r k a b e q. rw (sym (g.there z) ∙ e) at h }
+  pub hop_marked : mark_of m p ≡ 1 → Hopped s t m i j
+  hop_marked h = record { onto = λ r k a b e q. rw (sym g.there ∙ e) at h }
 
 -- step 1, record by record
 pub record LiveTo (s t m : List ℕ) (n : ℕ) : Type 0 where
   pub at : (i : ℕ) → 1 ≤ i → i ≤ n → live (schema_of s) (record_of t i) ≡ true → mark_of m i ≡ 1
-
-pub live_more : (s t m w : List ℕ) (n : ℕ) (m' w' : List ℕ) (n' l : ℕ) → l < used_at t → LiveTo s t m l → More t m w n m' w' n'
-    → (live (schema_of s) (record_of t (l + 1)) ≡ true → mark_of m' (l + 1) ≡ 1) → LiveTo s t m' (l + 1)
-live_more s t m w n m' w' n' l b v more h = record { at = λ i a d. go i a d (tri i (l + 1)) }
-  where
-    go : (i : ℕ) → 1 ≤ i → i ≤ l + 1 → Tri i (l + 1) → live (schema_of s) (record_of t i) ≡ true → mark_of m' i ≡ 1
-    go i a d (low e) f = more.keeps i a (omega arith) (v.at i a (omega arith) f)
-    go i a d (same e) f = rw e (h (rw e at f))
-    go i a d (high e) f = absurd (omega arith)
-
-pub live_none : (s t m : List ℕ) → LiveTo s t m 0
-live_none s t m = record { at = λ i a b. absurd (omega arith) }
 
 pub live_keep : (s t m w : List ℕ) (n : ℕ) (m' w' : List ℕ) (n' : ℕ) → More t m w n m' w' n' → Live s t m → Live s t m'
 live_keep s t m w n m' w' n' more v = record { at = λ i a b f. more.keeps i a b (v.at i a b f) }
@@ -258,16 +186,13 @@ live_keep s t m w n m' w' n' more v = record { at = λ i a b f. more.keeps i a b
 pub record Done (s t m w : List ℕ) (n : ℕ) : Type 0 where
   pub at : (k : ℕ) → k < n → Visited s t m (get_or w k 0) (field_count s (relation_at t (get_or w k 0)))
 
-pub done_none : (s t m w : List ℕ) → Done s t m w 0
-done_none s t m w = record { at = λ k l. absurd (omega arith) }
-
-pub done_more : (s t m w : List ℕ) (n : ℕ) (m' w' : List ℕ) (n' l : ℕ) → l < n → Done s t m w l → More t m w n m' w' n'
-    → Visited s t m' (get_or w l 0) (field_count s (relation_at t (get_or w l 0))) → Done s t m' w' (l + 1)
-done_more s t m w n m' w' n' l b d more v = record { at = λ k h. go k h (tri k l) }
+pub done_more : (s t m w : List ℕ) (n : ℕ) (m' w' : List ℕ) (n' l i : ℕ) → l < n → Done s t m w l → More t m w n m' w' n'
+    → i ≡ get_or w l 0 → Visited s t m' i (field_count s (relation_at t i)) → Done s t m' w' (l + 1)
+done_more s t m w n m' w' n' l i b d more at v = record { at = λ k h. go k h (tri k l) }
   where
     go : (k : ℕ) → k < l + 1 → Tri k l → Visited s t m' (get_or w' k 0) (field_count s (relation_at t (get_or w' k 0)))
     go k h (low e) = rw (more.same k (omega arith)) (visited_keep s t m w n m' w' n' more _ _ (d.at k e))
-    go k h (same e) = rw (e, more.same l b) v
+    go k h (same e) = rw (e, more.same l b, ← at) v
     go k h (high e) = absurd (omega arith)
 
 -- All visited: the marked records are those that stand.

@@ -46,12 +46,16 @@ pub record More (t m w : List ℕ) (n : ℕ) (m' w' : List ℕ) (n' : ℕ) : Typ
 pub record Live (s t m : List ℕ) : Type 0 where
   pub at : (i : ℕ) → 1 ≤ i → i ≤ used_at t → live (schema_of s) (record_of t i) ≡ true → mark_of m i ≡ 1
 
--- What a hop from field j of record i leads to: position r, or no record where r is 0.
-pub record Target (s t : List ℕ) (i j r : ℕ) : Type 0 where
-  pub none : r ≡ 0 → (p : ℕ) → is_abort (kind_at s (relation_at t i) j) ≡ true → 1 ≤ p → p ≤ used_at t → resolved_at s t i j ≡ p → ⊥
-  pub within : r ≤ used_at t
-  pub abort : (r ≡ 0 → ⊥) → is_abort (kind_at s (relation_at t i) j) ≡ true
-  pub there : (r ≡ 0 → ⊥) → resolved_at s t i j ≡ r
+-- No hop leads from field j of record i to a record.
+pub record NoTarget (s t : List ℕ) (i j : ℕ) : Type 0 where
+  pub none : (p : ℕ) → is_abort (kind_at s (relation_at t i) j) ≡ true → 1 ≤ p → p ≤ used_at t → resolved_at s t i j ≡ p → ⊥
+
+-- The hop from field j of record i leads to position p.
+pub record Target (s t : List ℕ) (i j p : ℕ) : Type 0 where
+  pub least : 1 ≤ p
+  pub within : p ≤ used_at t
+  pub abort : is_abort (kind_at s (relation_at t i) j) ≡ true
+  pub there : resolved_at s t i j ≡ p
 
 -- Where field j of record i is a reference by abort that leads to a complete record, that record is marked.
 pub record Hopped (s t m : List ℕ) (i j : ℕ) : Type 0 where

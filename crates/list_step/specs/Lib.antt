@@ -1,1 +1,1 @@
-pub mod Walkable
+pub mod Given

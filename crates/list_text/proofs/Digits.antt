@@ -1,6 +1,6 @@
 -- A number's digits: one more is asked for without effect, and the last one is set apart.
 -- Assumes nothing.
-use Prim.Native.Nat.{ℕ, zero, suc, ◌+◌, ◌*◌, ◌/◌, ◌^◌, ◌≤◌, ◌<◌}
+use Prim.Native.Nat.{ℕ, zero, suc, ◌*◌, ◌/◌, ◌^◌, ◌≤◌, ◌<◌}
 use mathlib.Core.Path.{◌≡◌, sym, ap, ◌∙◌}
 use mathlib.Core.Bool.{true, false}
 use mathlib.Core.Logic.{◌⊎◌, inl, inr}
@@ -11,8 +11,9 @@ use lib.Dec.{ltb}
 use borrow.Author.Tests.{lt-ltb, le-ltb, ltb-true, ltb-false}
 use Rattle.crdt.proofs.Tests.{test}
 use Rattle.list_text.specs.Text.{digit, digits, decimal_text}
-use Rattle.list_text.specs.Placed.{Placed}
-use Rattle.list_text.proofs.Laying.{then, as_text}
+use Rattle.list_text.specs.declared.Out.{Out}
+use Rattle.list_text.specs.Written.{Written}
+use Rattle.list_text.proofs.Laying.{then, as_written}
 
 module _ (k n : ℕ) where
   digits_one : n < 10 → digits (suc k) n ≡ digit n ∷ []
@@ -47,10 +48,10 @@ pub decimal_last : (n : ℕ) → 10 ≤ n → n < 2 ^ 64 → decimal_text n ≡ 
 unfolding decimal_text
 decimal_last n h l = digits_last 19 n h ∙ ap (λ (x : List ℕ). x ++ (digit n ∷ [])) (sym (digits_more 19 (n / 10) (omega arith) (omega arith)))
 
-pub placed_one : {o o' : List ℕ} {at r : ℕ} (n d : ℕ) → n < 10 → d ≡ digit n → Placed o at (d ∷ []) r o' → Placed o at (decimal_text n) r o'
-placed_one n d h e p = as_text (ap (λ (x : ℕ). x ∷ []) e ∙ sym (decimal_one n h)) p
+pub placed_one : {a b : Out} (n d : ℕ) → n < 10 → d ≡ digit n → Written a b (d ∷ []) → Written a b (decimal_text n)
+placed_one n d h e p = as_written (ap (λ (x : ℕ). x ∷ []) e ∙ sym (decimal_one n h)) p
 
-pub placed_last : {o o' o'' : List ℕ} {at r r' : ℕ} (n d : ℕ) → 10 ≤ n → n < 2 ^ 64 → d ≡ digit n → Placed o at (decimal_text (n / 10)) r o'
-    → Placed o' r (d ∷ []) r' o'' → Placed o at (decimal_text n) r' o''
+pub placed_last : {a b c : Out} (n d : ℕ) → 10 ≤ n → n < 2 ^ 64 → d ≡ digit n → Written a b (decimal_text (n / 10))
+    → Written b c (d ∷ []) → Written a c (decimal_text n)
 placed_last n d h l e p q =
-    as_text (ap (λ (x : ℕ). decimal_text (n / 10) ++ (x ∷ [])) e ∙ sym (decimal_last n h l)) (then (decimal_text (n / 10)) (d ∷ []) p q)
+    as_written (ap (λ (x : ℕ). decimal_text (n / 10) ++ (x ∷ [])) e ∙ sym (decimal_last n h l)) (then (decimal_text (n / 10)) (d ∷ []) p q)

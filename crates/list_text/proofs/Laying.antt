@@ -11,6 +11,8 @@ use lib.ListN.{length, take, drop, get_or, set, length-set}
 use lib.Seq.{sets, sets-eq, take-append_seam, set_out, drop-cons, drop-length}
 use borrow.Author.Tests.{lt-ltb, le-ltb}
 use Rattle.list_text.specs.Placed.{next_index, end_of, laid, Placed}
+use Rattle.list_text.specs.Written.{Written}
+use Rattle.list_text.specs.declared.Out.{Out}
 
 pub laid_length : (o : List ℕ) (at : ℕ) (x : List ℕ) → length (laid o at x) ≡ length o
 unfolding laid
@@ -43,9 +45,8 @@ pub one_out : (o : List ℕ) (at c : ℕ) → length o ≤ at → Placed o at (c
 unfolding laid end_of next_index
 one_out o at c h = record { end = rw (le-ltb at (length o) h); chars = sym (set_out o at c h) }
 
--- a text and then another
-pub then : {o o' o'' : List ℕ} {at r r' : ℕ} (x y : List ℕ) → Placed o at x r o' → Placed o' r y r' o'' → Placed o at (x ++ y) r' o''
-then {o} {o'} {o''} {at} {r} {r'} x y p q = go p.end p.chars q.end q.chars
+placed_then : {o o' o'' : List ℕ} {at r r' : ℕ} (x y : List ℕ) → Placed o at x r o' → Placed o' r y r' o'' → Placed o at (x ++ y) r' o''
+placed_then {o} {o'} {o''} {at} {r} {r'} x y p q = go p.end p.chars q.end q.chars
   where
     go : r ≡ end_of (length o) at x → o' ≡ laid o at x → r' ≡ end_of (length o') r y → o'' ≡ laid o' r y → Placed o at (x ++ y) r' o''
     go a b c d =
@@ -55,9 +56,16 @@ then {o} {o'} {o''} {at} {r} {r'} x y p q = go p.end p.chars q.end q.chars
           chars = d ∙ ap (λ (k : ℕ). laid o' k y) a ∙ ap (λ (l : List ℕ). laid l (end_of (length o) at x) y) b ∙ sym (laid_append o at x y);
         }
 
+-- a text and then another
+pub then : {a b c : Out} (x y : List ℕ) → Written a b x → Written b c y → Written a c (x ++ y)
+then x y p q = record { same = q.same ∙ p.same; text = placed_then x y p.text q.text }
+
 -- the same text by another name
 pub as_text : {o o' : List ℕ} {at r : ℕ} {x y : List ℕ} → x ≡ y → Placed o at x r o' → Placed o at y r o'
 as_text e p = rw e at p
+
+pub as_written : {a b : Out} {x y : List ℕ} → x ≡ y → Written a b x → Written a b y
+as_written e p = rw e at p
 
 -- where there is room, the text stands there whole
 end_fits : (n at : ℕ) (x : List ℕ) → at + length x ≤ n → end_of n at x ≡ at + length x
@@ -85,41 +93,44 @@ whole {o} {o'} {r} x p h =
     (a, ap (λ (k : ℕ). take k o') a ∙ ap (λ (l : List ℕ). take (length x) l) b ∙ take-append_seam x (drop (0 + length x) o))
 
 -- A loop's turns: what is still to be written, from the buffer as it is, gives what the whole text gives from the buffer as it was.
-pub record Leads (o : List ℕ) (at : ℕ) (x : List ℕ) (o' : List ℕ) (at' : ℕ) (rest : List ℕ) : Type 0 where
-  pub size : length o' ≡ length o
-  pub end : end_of (length o) at' rest ≡ end_of (length o) at x
-  pub chars : laid o' at' rest ≡ laid o at x
+pub record Leads (a : Out) (x : List ℕ) (b : Out) (rest : List ℕ) : Type 0 where
+  pub same : b.bytes.ghost_name ≡ a.bytes.ghost_name
+  pub size : length b.bytes.now ≡ length a.bytes.now
+  pub end : end_of (length a.bytes.now) b.at rest ≡ end_of (length a.bytes.now) a.at x
+  pub chars : laid b.bytes.now b.at rest ≡ laid a.bytes.now a.at x
 
-pub leads_start : (o : List ℕ) (at : ℕ) (x : List ℕ) → Leads o at x o at x
-leads_start o at x = record { size = refl; end = refl; chars = refl }
+pub leads_start : (a : Out) (x : List ℕ) → Leads a x a x
+leads_start a x = record { same = refl; size = refl; end = refl; chars = refl }
 
-pub leads_on_lem : {o o' o'' : List ℕ} {at r r' : ℕ} {x : List ℕ} (y rest : List ℕ) → Leads o at x o' r (y ++ rest) → Placed o' r y r' o'' → Leads o at x o'' r' rest
-leads_on_lem {o} {o'} {o''} {at} {r} {r'} {x} y rest l p =
-    let n : length o'' ≡ length o = ap length p.chars ∙ laid_length o' r y ∙ l.size in
-    let a : r' ≡ end_of (length o) r y = p.end ∙ ap (λ (k : ℕ). end_of k r y) l.size in
+pub leads_on_lem : {a b c : Out} {x : List ℕ} (y rest : List ℕ) → Leads a x b (y ++ rest) → Written b c y → Leads a x c rest
+leads_on_lem {a} {b} {c} {x} y rest l w =
+    let p = w.text in
+    let n : length c.bytes.now ≡ length a.bytes.now = ap length p.chars ∙ laid_length b.bytes.now b.at y ∙ l.size in
+    let e : c.at ≡ end_of (length a.bytes.now) b.at y = p.end ∙ ap (λ (k : ℕ). end_of k b.at y) l.size in
     record {
+      same = w.same ∙ l.same;
       size = n;
-      end = ap (λ (k : ℕ). end_of (length o) k rest) a ∙ sym (end_append (length o) r y rest) ∙ l.end;
+      end = ap (λ (k : ℕ). end_of (length a.bytes.now) k rest) e ∙ sym (end_append (length a.bytes.now) b.at y rest) ∙ l.end;
       chars =
-          ap (λ (k : ℕ). laid o'' k rest) p.end ∙ ap (λ (q : List ℕ). laid q (end_of (length o') r y) rest) p.chars
-          ∙ sym (laid_append o' r y rest) ∙ l.chars;
+          ap (λ (k : ℕ). laid c.bytes.now k rest) p.end ∙ ap (λ (q : List ℕ). laid q (end_of (length b.bytes.now) b.at y) rest) p.chars
+          ∙ sym (laid_append b.bytes.now b.at y rest) ∙ l.chars;
     }
 
-pub leads_end : {o o' : List ℕ} {at r : ℕ} {x : List ℕ} → Leads o at x o' r [] → Placed o at x r o'
+pub leads_end : {a b : Out} {x : List ℕ} → Leads a x b [] → Written a b x
 unfolding end_of laid
-leads_end l = record { end = l.end; chars = l.chars }
+leads_end l = record { same = l.same; text = record { end = l.end; chars = l.chars } }
 
-pub leads_as : {o o' : List ℕ} {at r : ℕ} {x rest rest' : List ℕ} → rest ≡ rest' → Leads o at x o' r rest → Leads o at x o' r rest'
+pub leads_as : {a b : Out} {x rest rest' : List ℕ} → rest ≡ rest' → Leads a x b rest → Leads a x b rest'
 leads_as e l = rw e at l
 
 -- the characters of a text, one by one
-pub copy_on : {o o' o'' : List ℕ} {at r r' : ℕ} {x : List ℕ} (text : List ℕ) (i : ℕ) → i < length text → Leads o at x o' r (drop i text)
-    → Placed o' r (get_or text i 0 ∷ []) r' o'' → Leads o at x o'' r' (drop (i + 1) text)
+pub copy_on : {a b c : Out} {x : List ℕ} (text : List ℕ) (i : ℕ) → i < length text → Leads a x b (drop i text) → Written b c (get_or text i 0 ∷ [])
+    → Leads a x c (drop (i + 1) text)
 copy_on text i h l p =
-    leads_on_lem (get_or text i 0 ∷ []) (drop (i + 1) text) (leads_as (drop-cons text i 0 h ∙ ap (λ (k : ℕ). get_or text i 0 ∷ drop k text) (sym (add-one i))) l) p
+    leads_on_lem (get_or text i 0 ∷ []) (drop (i + 1) text)
+    (leads_as (drop-cons text i 0 h ∙ ap (λ (k : ℕ). get_or text i 0 ∷ drop k text) (sym (add-one i))) l) p
 
-pub copy_end : {o o' : List ℕ} {at r : ℕ} {x : List ℕ} (text : List ℕ) (i : ℕ) → i ≤ length text → length text ≤ i → Leads o at x o' r (drop i text)
-    → Placed o at x r o'
+pub copy_end : {a b : Out} {x : List ℕ} (text : List ℕ) (i : ℕ) → i ≤ length text → length text ≤ i → Leads a x b (drop i text) → Written a b x
 copy_end text i h g l =
     let e : i ≡ length text = omega arith in
     leads_end (leads_as (ap (λ (k : ℕ). drop k text) e ∙ drop-length text) l)

@@ -1,13 +1,14 @@
-// The list's text in a lent buffer. Each function writes from an index on and gives the index after its text; what the buffer has
-// no room for is left out.
+// The list's text in a lent buffer: what the buffer has no room for is left out.
 #![tactic(auto)]
 
 ghost use Rattle.std.specs.Prelude.{◌≡◌, [], ◌∷◌, ◌++◌, map, ◌+◌, ◌≤◌};
 ghost use Rattle.model.specs.Layout.{most_records, used_at, field_count, kind_at, value_at};
 ghost use Rattle.model.specs.Lists.{listed};
 ghost use Rattle.model.specs.Calls.{entry_at, walk_given, walked};
-ghost use Rattle.list_text.specs.Text.{space, dash, dot, digit, decimal_text, label_text, reference_text, value_text, values_text, line_text, lines_text, told_text, refused_text, shown_text};
+ghost use Rattle.list_step.specs.Given.{given};
+ghost use Rattle.list_text.specs.Text.{space, dot, digit, decimal_text, label_text, reference_text, value_text, values_text, line_text, lines_text, told_text, refused_text, shown_text};
 ghost use Rattle.list_text.specs.Placed.{Placed};
+ghost use Rattle.list_text.specs.Written.{Written};
 
 use crdt::Label;
 
@@ -19,28 +20,137 @@ const DOT: u8 = 46;
 
 const DASH: u8 = 45;
 
-// One character.
-fn put(out: &mut [u8], at: usize, x: u8) -> usize
-    ensures { Placed out.old at (x ∷ []) result out.new }
-{
-    if at < out.len() {
-        out[at] = x;
-        return at + 1;
-    }
-    at
+// A text in a buffer, and the index after what is written of it.
+#[derive(Drop)]
+struct Out<'a> {
+    bytes: &'a mut [u8],
+    at: usize,
 }
 
-// All characters of a text.
-fn copy(text: &[u8], out: &mut [u8], at: usize) -> usize
-    ensures { Placed out.old at text.now result out.new }
-{
-    let mut to = at;
-    let mut i: usize = 0;
-    while i < text.len() {
-        to = put(out, to, text[i]);
-        i += 1;
+impl Out<'_> {
+    // One character.
+    fn put(&mut self, x: u8)
+        ensures { Written self.old self.new (x ∷ []) }
+    {
+        let at = self.at;
+        if at < self.bytes.len() {
+            self.bytes[at] = x;
+            self.at += 1;
+        }
     }
-    to
+
+    // All characters of a text.
+    fn copy(&mut self, text: &[u8])
+        ensures { Written self.old self.new text.now }
+    {
+        for x in text {
+            self.put(*x);
+        }
+    }
+
+    // A number in decimal.
+    fn decimal(&mut self, n: u64)
+        ensures { Written self.old self.new (decimal_text n) }
+    {
+        if n >= 10 {
+            self.decimal(n / 10);
+        }
+        self.put(digit(n));
+    }
+
+    // A label, as counter.replica.
+    fn label(&mut self, x: u64)
+        ensures { Written self.old self.new (label_text x) }
+    {
+        self.decimal(Label(x).counter());
+        self.put(DOT);
+        self.decimal(Label(x).replica());
+    }
+
+    // A reference: a label, or a dash where it is empty.
+    fn reference(&mut self, x: u64)
+        ensures { Written self.old self.new (reference_text x) }
+    {
+        if x == 0 {
+            self.put(DASH);
+        } else {
+            self.label(x);
+        }
+    }
+
+    // A value by the kind of its field.
+    fn value(&mut self, kind: u64, x: u64)
+        ensures { Written self.old self.new (value_text kind x) }
+    {
+        if kind < layout::ABORT {
+            self.decimal(x);
+        } else {
+            self.reference(x);
+        }
+    }
+
+    // A space and a value.
+    fn field(&mut self, kind: u64, x: u64)
+        ensures { Written self.old self.new (space ∷ value_text kind x) }
+    {
+        self.put(SPACE);
+        self.value(kind, x);
+    }
+
+    // The values of record `i`, which is of this relation.
+    fn values(&mut self, schema: &[u64], table: &[u64], relation: usize, i: usize)
+        ensures { Written self.old self.new (values_text (listed (field_count schema.now relation) (kind_at schema.now relation)) (listed (field_count schema.now relation) (value_at table.now i))) }
+    {
+        for j in 0..layout::field_count(schema, relation) {
+            self.field(
+                layout::kind_at(schema, relation, j + 1),
+                layout::value_at(table, i, j + 1),
+            );
+        }
+    }
+
+    // Relation and label of a record.
+    fn head(&mut self, relation: u64, x: u64)
+        ensures { Written self.old self.new (decimal_text relation ++ (space ∷ label_text x)) }
+    {
+        self.decimal(relation);
+        self.put(SPACE);
+        self.label(x);
+    }
+
+    // The line of record `i`.
+    fn line(&mut self, schema: &[u64], table: &[u64], i: usize)
+        ensures { Written self.old self.new (line_text schema.now (entry_at schema.now table.now i)) }
+    {
+        let r = layout::relation_at(table, i);
+        self.head(r as u64, layout::label_at(table, i));
+        self.values(schema, table, r, i);
+        self.put(NEWLINE);
+    }
+
+    // The lines of the records that the walk gives, in its order. A table gives no more of them than it has used records.
+    fn lines(&mut self, schema: &[u64], table: &[u64], marks: &[u8])
+        requires { used_at table.now ≤ most_records }
+        ensures { Written self.old self.new (lines_text schema.now (map (entry_at schema.now table.now) (walked (used_at table.now + 1) schema.now table.now marks.now 0).given)) }
+    {
+        let mut next = given_after(schema, table, marks, 0);
+        for turn in 0..layout::used(table) + 1 {
+            let Some(i) = next else {
+                break;
+            };
+            self.line(schema, table, i);
+            next = given_after(schema, table, marks, i);
+        }
+    }
+
+    // A word, a space, a number, and the end of the line.
+    fn told(&mut self, word: &[u8], n: u64)
+        ensures { Written self.old self.new (told_text word.now n) }
+    {
+        self.copy(word);
+        self.decimal(n);
+        self.put(NEWLINE);
+    }
 }
 
 // The character of the last digit.
@@ -50,145 +160,31 @@ fn digit(n: u64) -> u8
     48 + (n % 10) as u8
 }
 
-// A number in decimal.
-fn decimal(n: u64, out: &mut [u8], at: usize) -> usize
-    ensures { Placed out.old at (decimal_text n) result out.new }
+// The record that the walk gives after index `i`, none at the end and in a refusal.
+fn given_after(schema: &[u64], table: &[u64], marks: &[u8], i: usize) -> Option<usize>
+    ensures { result ≡ given (walk_given schema.now table.now marks.now i) }
 {
-    if n < 10 {
-        return put(out, at, digit(n));
-    }
-    let to = decimal(n / 10, out, at);
-    put(out, to, digit(n))
+    list_walk::next_from(schema, table, marks, i)
+        .answer
+        .unwrap_or(None)
 }
 
-// A label, as counter.replica.
-fn label(x: u64, out: &mut [u8], at: usize) -> usize
-    ensures { Placed out.old at (label_text x) result out.new }
-{
-    let dot = decimal(Label(x).counter(), out, at);
-    let replica = put(out, dot, DOT);
-    decimal(Label(x).replica(), out, replica)
-}
-
-// A reference: a label, or a dash where it is empty.
-fn reference(x: u64, out: &mut [u8], at: usize) -> usize
-    ensures { Placed out.old at (reference_text x) result out.new }
-{
-    if x == 0 {
-        return put(out, at, DASH);
-    }
-    label(x, out, at)
-}
-
-// A value by the kind of its field.
-fn value(kind: u64, x: u64, out: &mut [u8], at: usize) -> usize
-    ensures { Placed out.old at (value_text kind x) result out.new }
-{
-    if kind < layout::ABORT {
-        return decimal(x, out, at);
-    }
-    reference(x, out, at)
-}
-
-// A space and a value.
-fn field(kind: u64, x: u64, out: &mut [u8], at: usize) -> usize
-    ensures { Placed out.old at (space ∷ value_text kind x) result out.new }
-{
-    let from = put(out, at, SPACE);
-    value(kind, x, out, from)
-}
-
-// The values of record `i`, which is of this relation.
-fn values(
-    schema: &[u64],
-    table: &[u64],
-    relation: usize,
-    i: usize,
-    out: &mut [u8],
-    at: usize,
-) -> usize
-    ensures { Placed out.old at (values_text (listed (field_count schema.now relation) (kind_at schema.now relation)) (listed (field_count schema.now relation) (value_at table.now i))) result out.new }
-{
-    let count = layout::field_count(schema, relation);
-    let mut to = at;
-    let mut j: usize = 0;
-    while j < count {
-        j += 1;
-        to = field(
-            layout::kind_at(schema, relation, j),
-            layout::value_at(table, i, j),
-            out,
-            to,
-        );
-    }
-    to
-}
-
-// Relation and label of a record.
-fn head(relation: u64, x: u64, out: &mut [u8], at: usize) -> usize
-    ensures { Placed out.old at (decimal_text relation ++ (space ∷ label_text x)) result out.new }
-{
-    let space = decimal(relation, out, at);
-    let from = put(out, space, SPACE);
-    label(x, out, from)
-}
-
-// The line of record `i`.
-fn line(schema: &[u64], table: &[u64], i: usize, out: &mut [u8], at: usize) -> usize
-    ensures { Placed out.old at (line_text schema.now (entry_at schema.now table.now i)) result out.new }
-{
-    let r = layout::relation_at(table, i);
-    let from = head(r as u64, layout::label_at(table, i), out, at);
-    let end = values(schema, table, r, i, out, from);
-    put(out, end, NEWLINE)
-}
-
-// The index of the record that the walk gives after index `i`, 0 at the end and in a refusal.
-fn given_after(schema: &[u64], table: &[u64], marks: &[u8], i: usize) -> usize
-    ensures { result ≡ walk_given schema.now table.now marks.now i }
-{
-    let m = list_walk::next_from(schema, table, marks, i);
-    let answer = m.answer;
-    answer.index()
-}
-
-// The lines of the records that the walk gives, in its order. A table gives no more of them than it has used records.
-fn lines(schema: &[u64], table: &[u64], marks: &[u8], out: &mut [u8], at: usize) -> usize
-    requires { used_at table.now ≤ most_records }
-    ensures { Placed out.old at (lines_text schema.now (map (entry_at schema.now table.now) (walked (used_at table.now + 1) schema.now table.now marks.now 0).given)) result out.new }
-{
-    let mut left = layout::used(table) + 1;
-    let mut i = given_after(schema, table, marks, 0);
-    let mut to = at;
-    while (0 < left) & (0 < i) {
-        to = line(schema, table, i, out, to);
-        i = given_after(schema, table, marks, i);
-        left -= 1;
-    }
-    to
-}
-
-// A word, a space, a number, and the end of the line.
-fn told(word: &[u8], n: u64, out: &mut [u8], at: usize) -> usize
-    ensures { Placed out.old at (told_text word.now n) result out.new }
-{
-    let from = copy(word, out, at);
-    let end = decimal(n, out, from);
-    put(out, end, NEWLINE)
-}
-
-// The text of a refusal.
+// The text of a refusal; the index after it.
 pub fn refused(number: u64, out: &mut [u8]) -> usize
     ensures { Placed out.old 0 (refused_text number) result out.new }
 {
-    told(b"refused ", number, out, 0)
+    let mut text = Out { bytes: out, at: 0 };
+    text.told(b"refused ", number);
+    text.at
 }
 
-// The text of a list with its shown count.
+// The text of a list with its shown count; the index after it.
 pub fn shown(schema: &[u64], table: &[u64], marks: &[u8], count: usize, out: &mut [u8]) -> usize
     requires { used_at table.now ≤ most_records }
     ensures { Placed out.old 0 (shown_text schema.now count (map (entry_at schema.now table.now) (walked (used_at table.now + 1) schema.now table.now marks.now 0).given)) result out.new }
 {
-    let from = told(b"shown ", count as u64, out, 0);
-    lines(schema, table, marks, out, from)
+    let mut text = Out { bytes: out, at: 0 };
+    text.told(b"shown ", count as u64);
+    text.lines(schema, table, marks);
+    text.at
 }

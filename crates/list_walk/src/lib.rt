@@ -1,36 +1,37 @@
 // The list walk: the next record in list order whose mark is 1, from a place that the caller holds.
 #![tactic(auto)]
 
-ghost use Rattle.std.specs.Prelude.{◌≡◌, cond, eqb};
-ghost use Rattle.answers.specs.Told.{told_ended, walk_told};
+ghost use Rattle.std.specs.Prelude.{◌≡◌};
+ghost use Rattle.answers.specs.Told.{told_ended};
+ghost use Rattle.answers.specs.Refused.{given_told};
 ghost use Rattle.model.specs.Calls.{walk_number, walk_given, walk_ended, walk_place};
+ghost use Rattle.list_step.specs.Given.{index_or};
 
-use answers::WalkAnswer;
+use answers::Refusal;
 
 // What a step gives, and the place after it.
 #[derive(Clone, Copy)]
 pub struct Moved {
-    pub answer: WalkAnswer,
+    pub answer: Result<Option<usize>, Refusal>,
     pub index: usize,
 }
 
-// A place and the index given, 0 for none: only a record moves the place.
-fn place_after(place: usize, given: usize) -> usize
-    ensures { result ≡ cond (eqb given 0) place given }
+// The place after an answer: only a record moves it.
+fn place_after(place: usize, answer: Result<Option<usize>, Refusal>) -> usize
+    ensures { result ≡ index_or place answer }
 {
-    if given == 0 {
-        return place;
-    }
-    given
+    answer.ok().flatten().unwrap_or(place)
 }
 
 // One step of the walk by value: what it gives, and the place after it.
 pub fn advance(schema: &[u64], table: &[u64], marks: &[u8], place: usize) -> Moved
-    ensures { (walk_told result.answer ≡ told_ended (walk_number schema.now table.now marks.now place) (walk_given schema.now table.now marks.now place) (walk_ended schema.now table.now marks.now place)) × (result.index ≡ walk_place schema.now table.now marks.now place) }
+    ensures { (given_told result.answer ≡ told_ended (walk_number schema.now table.now marks.now place) (walk_given schema.now table.now marks.now place) (walk_ended schema.now table.now marks.now place)) × (result.index ≡ walk_place schema.now table.now marks.now place) }
 {
     let answer = list_step::step(schema, table, marks, place);
-    let index = place_after(place, answer.index());
-    Moved { answer, index }
+    Moved {
+        answer,
+        index: place_after(place, answer),
+    }
 }
 
 // A reader's place in the list: the index of the record last given, 0 before the first.
@@ -40,8 +41,13 @@ pub struct Place {
 }
 
 // The next record of the list, and the place moved to it. At the end and in a refusal the place does not move.
-pub fn next(place: &mut Place, schema: &[u64], table: &[u64], marks: &[u8]) -> WalkAnswer
-    ensures { (walk_told result ≡ told_ended (walk_number schema.now table.now marks.now place.old.index) (walk_given schema.now table.now marks.now place.old.index) (walk_ended schema.now table.now marks.now place.old.index)) × (place.new.index ≡ walk_place schema.now table.now marks.now place.old.index) }
+pub fn next(
+    place: &mut Place,
+    schema: &[u64],
+    table: &[u64],
+    marks: &[u8],
+) -> Result<Option<usize>, Refusal>
+    ensures { (given_told result ≡ told_ended (walk_number schema.now table.now marks.now place.old.index) (walk_given schema.now table.now marks.now place.old.index) (walk_ended schema.now table.now marks.now place.old.index)) × (place.new.index ≡ walk_place schema.now table.now marks.now place.old.index) }
 {
     let m = advance(schema, table, marks, place.index);
     place.index = m.index;
@@ -50,7 +56,7 @@ pub fn next(place: &mut Place, schema: &[u64], table: &[u64], marks: &[u8]) -> W
 
 // One step for a caller that holds the index alone: the place is made here, lent to `next`, and its index read back.
 pub fn next_from(schema: &[u64], table: &[u64], marks: &[u8], index: usize) -> Moved
-    ensures { (walk_told result.answer ≡ told_ended (walk_number schema.now table.now marks.now index) (walk_given schema.now table.now marks.now index) (walk_ended schema.now table.now marks.now index)) × (result.index ≡ walk_place schema.now table.now marks.now index) }
+    ensures { (given_told result.answer ≡ told_ended (walk_number schema.now table.now marks.now index) (walk_given schema.now table.now marks.now index) (walk_ended schema.now table.now marks.now index)) × (result.index ≡ walk_place schema.now table.now marks.now index) }
 {
     let mut place = Place { index };
     let answer = next(&mut place, schema, table, marks);

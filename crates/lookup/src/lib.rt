@@ -2,66 +2,53 @@
 // read.
 #![tactic(auto)]
 
-ghost use Rattle.std.specs.Prelude.{◌≡◌, true, cond, ◌≤◌, eqb, length};
-ghost use Rattle.crdt.specs.Labels.{largest_counter};
-ghost use Rattle.answers.specs.Told.{told, told_known, lookup_told};
-ghost use Rattle.model.specs.Layout.{most_relations, most_records, schema_words, relations, capacity_of, clock_at, used_at, label_at};
+ghost use Rattle.std.specs.Prelude.{◌≡◌};
+ghost use Rattle.answers.specs.Told.{told_known};
+ghost use Rattle.answers.specs.Refused.{known_told};
 ghost use Rattle.model.specs.Lookup.{lookup_seek, lookup_number, lookup_index, lookup_known};
 ghost use Rattle.lookup.specs.Sought.{sought_told};
 
-use answers::LookupAnswer;
+use answers::Refusal;
+use layout::FIELDS;
 use table::Stop;
+use table_rules::Readable;
 
-// The walk stopped at record `i`, whose label is the one looked for or a larger one.
-fn met(t: &[u64], i: usize, label: u64) -> LookupAnswer
-    ensures { lookup_told result ≡ cond (eqb (label_at t.now i) label) (told_known 0 i true) (told 0 0) }
+// What is told of where the walk along the chain of relation `r` stops: known where it meets the label looked for.
+fn seek(of: Readable<FIELDS>, r: usize, label: u64) -> Result<Option<usize>, Refusal>
+    ensures { known_told result ≡ sought_told (lookup_seek of.entry.schema.now of.entry.table.now r label) }
 {
-    if layout::label_at(t, i) == label {
-        return LookupAnswer::Known(i);
-    }
-    LookupAnswer::Unknown
-}
-
-// What is told of where the walk along the chain of relation `r` stops.
-fn seek(schema: &[u64], t: &[u64], r: usize, label: u64) -> LookupAnswer
-    requires { (length schema.now ≡ schema_words) × (relations schema.now ≤ most_relations) × (clock_at t.now ≤ largest_counter) × (used_at t.now ≤ capacity_of t.now) × (used_at t.now ≤ most_records) }
-    ensures { lookup_told result ≡ sought_told (lookup_seek schema.now t.now r label) }
-{
-    let stop = table::walk_to(schema, t, r, label);
-    match stop {
-        Stop::Broken => LookupAnswer::TableBroken,
-        Stop::At(i) => met(t, i, label),
-        Stop::End(_) => LookupAnswer::Unknown,
+    match table::walk_to::<FIELDS>(of, r, label) {
+        None => Err(Refusal::TableBroken),
+        Some(Stop::At(i)) => Ok((layout::label_at(of.table, i) == label).then_some(i)),
+        Some(Stop::End(_)) => Ok(None),
     }
 }
 
-// What is answered before a record is read: the header comes before the relation.
-fn refused(header: bool) -> LookupAnswer
-    ensures { lookup_told result ≡ told (cond header 5 3) 0 }
-{
-    if header {
-        return LookupAnswer::NoRelation;
-    }
-    LookupAnswer::TableBroken
-}
-
-// The index of the record of that relation and label, shown or not. Nothing is written.
-pub fn lookup(schema: &[u64], table: &[u64], relation: usize, label: u64) -> LookupAnswer
-    ensures { lookup_told result ≡ told_known (lookup_number schema.now table.now relation label) (lookup_index schema.now table.now relation label) (lookup_known schema.now table.now relation label) }
+// The index of the record of that relation and label, shown or not; none where it isn't known. Nothing is written.
+pub fn lookup(
+    schema: &[u64],
+    table: &[u64],
+    relation: usize,
+    label: u64,
+) -> Result<Option<usize>, Refusal>
+    ensures { known_told result ≡ told_known (lookup_number schema.now table.now relation label) (lookup_index schema.now table.now relation label) (lookup_known schema.now table.now relation label) }
 {
     let lengths = layout::schema_length(schema) & layout::table_length(table);
     if !lengths {
-        return LookupAnswer::WrongLength;
+        return Err(Refusal::WrongLength);
     }
     if schema::is_broken(schema) {
-        return LookupAnswer::SchemaBroken;
+        return Err(Refusal::SchemaBroken);
     }
     let header = table_rules::header_rules(table)
         & table_rules::firsts_rule(table)
         & table_rules::empty_above(schema, table);
     let inside = (1 <= relation) & (relation <= layout::relations(schema));
-    if !(header & inside) {
-        return refused(header);
+    if !header {
+        return Err(Refusal::TableBroken);
     }
-    seek(schema, table, relation, label)
+    if !inside {
+        return Err(Refusal::RelationOrReplica);
+    }
+    seek(Readable { schema, table }, relation, label)
 }

@@ -96,21 +96,25 @@ module _ (s t b : List ℕ) where
   refused_figure n = rw (ne_eqb (merge_number s t b) 0 n)
 
 -- by what the answer tells
-module _ (s t b : List ℕ) (k : Told) (d : k ≡ told (merge_number s t b) 0) (n : ℕ) (e : n ≡ k.number) where
+module _ (s t b : List ℕ) (n : ℕ) (d : told n 0 ≡ told (merge_number s t b) 0) where
   is_number : n ≡ merge_number s t b
-  is_number = e ∙ ap (λ (x : Told). x.number) d
+  is_number = ap (λ (x : Told). x.number) d
 
   pub refused_at : n ≢ 0 → t ≡ merge_table s t b
   refused_at h = refused_words s t b (λ z. h (is_number ∙ z))
 
-  pub accepted_at : n ≡ 0 → Mergeable t b
-  accepted_at h = accepted s t b (sym h ∙ is_number)
-
-  pub done_at : n ≡ 0 → (u : List ℕ) → u ≡ encode (merged (decode t) (decode b)) → u ≡ merge_table s t b
-  done_at h u g = done_words s t b u (sym h ∙ is_number) g
-
-  pub told_refused : n ≢ 0 → k ≡ told (merge_number s t b) (merge_changed s t b)
+  pub told_refused : n ≢ 0 → told n 0 ≡ told (merge_number s t b) (merge_changed s t b)
   told_refused h = d ∙ ap (λ (x : ℕ). told (merge_number s t b) x) (refused_figure s t b (λ z. h (is_number ∙ z)))
 
-  pub told_done : n ≡ 0 → (x : ℕ) → x ≡ changes (records_in t) (merged_records (records_in t) (records_in b)) → told 0 x ≡ told (merge_number s t b) (merge_changed s t b)
-  told_done h x g = ap₂ (λ (y z : ℕ). told y z) (sym h ∙ is_number) (done_figure s t b x (sym h ∙ is_number) g)
+module _ (s t b : List ℕ) (d : told 0 0 ≡ told (merge_number s t b) 0) where
+  accepts : 0 ≡ merge_number s t b
+  accepts = ap (λ (x : Told). x.number) d
+
+  pub accepted_at : Mergeable t b
+  accepted_at = accepted s t b accepts
+
+  pub done_at : (u : List ℕ) → u ≡ encode (merged (decode t) (decode b)) → u ≡ merge_table s t b
+  done_at u g = done_words s t b u accepts g
+
+  pub told_done : (x : ℕ) → x ≡ changes (records_in t) (merged_records (records_in t) (records_in b)) → told 0 x ≡ told (merge_number s t b) (merge_changed s t b)
+  told_done x g = ap₂ (λ (y z : ℕ). told y z) accepts (done_figure s t b x accepts g)

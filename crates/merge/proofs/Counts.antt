@@ -1,8 +1,9 @@
 -- The records that the own table lacks, counted chain by chain, in the forms in which the code asks for them.
 -- Assumes nothing.
 use Prim.Native.Nat.{ℕ, ◌+◌, ◌≤◌, ◌<◌}
-use mathlib.Core.Path.{◌≡◌}
-use mathlib.Core.Bool.{Bool, true, false, cond}
+use mathlib.Core.Path.{◌≡◌, refl, ◌∙◌}
+use mathlib.Core.Bool.{Bool, true, false, cond, not}
+use Rattle.std.specs.Int.{from_bool}
 use mathlib.Core.List.{List}
 use native.Mathlib.Omega.{arith}
 use lib.ListN.{length}
@@ -15,11 +16,9 @@ use Rattle.merge_laws.proofs.Chain.{Counting, count_end, count_seek, count_on, c
 use Rattle.merge_seek.proofs.Forms.{Seeks, sought_at}
 
 -- one record
-pub absent_yes : (b c : Bool) → b ≡ c → b ≡ true → ◌≡◌ {A = ℕ} 0 (cond c 0 1)
-absent_yes b c e h = rw (← e, h)
-
-pub absent_no : (b c : Bool) → b ≡ c → b ≡ false → ◌≡◌ {A = ℕ} 1 (cond c 0 1)
-absent_no b c e h = rw (← e, h)
+pub absent_is : (b c : Bool) (n : ℕ) → b ≡ c → n ≡ from_bool (not b) → n ≡ cond c 0 1
+absent_is true c n e h = h ∙ rw (← e) refl
+absent_is false c n e h = h ∙ rw (← e) refl
 
 -- all chains
 pub count_all : (t b : List ℕ) (wt : Whole t) (wb : Whole b) (n r : ℕ) → r ≤ most_relations + 1 → most_relations < r → n + missing (records_in t) (place r 0) (records_in b) ≡ missing (records_in t) (place 1 0) (records_in b)

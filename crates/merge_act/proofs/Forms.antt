@@ -1,11 +1,12 @@
 -- The steps of a merge in the forms in which the code asks for them.
 -- Assumes nothing.
 use Prim.Native.Nat.{ℕ, ◌+◌, ◌≤◌, ◌<◌, max}
-use mathlib.Core.Path.{◌≡◌, ◌∙◌}
+use mathlib.Core.Path.{◌≡◌, refl, ◌∙◌}
 use mathlib.Core.Bool.{Bool, true, false, cond, ◌||◌}
 use mathlib.Core.List.{List}
 use native.Mathlib.Omega.{arith}
 use lib.Dec.{ltb}
+use Rattle.std.specs.Int.{from_bool}
 use lib.ListN.{set}
 use Rattle.crdt.specs.Flags.{largest_flag}
 use Rattle.model.specs.Layout.{most_relations, most_records, clock_word, clock_at, used_at, next_at, relation_at, label_at, flag_at}
@@ -17,6 +18,11 @@ use Rattle.merge_laws.proofs.Take.{take_open, take_bounds, take_done, take_count
 use Rattle.merge_laws.proofs.Chain.{Along, along_end, along_seek, along_take, along_on, going_linked, taken_all, taken_count}
 use Rattle.wellformed.proofs.Words.{clock_words}
 use Rattle.merge_seek.proofs.Forms.{Seeks, sought_at}
+
+-- a bool as a number
+pub bit : (b : Bool) → from_bool b ≡ cond b 1 0
+bit true = refl
+bit false = refl
 
 -- the clock
 pub act_is : (t t₁ t₂ b : List ℕ) (x y c : ℕ) → x ≡ clock_at t → y ≡ clock_at b → c ≡ max x y → t₁ ≡ encode (with_records (decode t) (merged_records (records_in t) (records_in b))) → t₂ ≡ set t₁ clock_word c
@@ -38,14 +44,8 @@ module _ (t b : List ℕ) (j a r l : ℕ) (q : Takeable t b j a) (e : r ≡ rela
 
     -- 1 or 0, as the test comes out
     module _ (u : ℕ) (x : Bool) (f : u ≡ used_at t) (k : x ≡ record_changed t₁ i b j) where
-      counted : cond {A = ℕ} (x || ltb u i) 1 0 ≡ changes (records_in t) (absorb (records_in t) (nth (records_in b) j))
-      counted = take_counted t b j a q t₁ i u x (rw (e, d) at g) (rw (e, d) at h) f k
-
-      pub take_one : (x || ltb u i) ≡ true → 1 ≡ changes (records_in t) (absorb (records_in t) (nth (records_in b) j))
-      take_one p = rw p at counted
-
-      pub take_none : (x || ltb u i) ≡ false → 0 ≡ changes (records_in t) (absorb (records_in t) (nth (records_in b) j))
-      take_none p = rw p at counted
+      pub take_counts : cond {A = ℕ} (x || ltb u i) 1 0 ≡ changes (records_in t) (absorb (records_in t) (nth (records_in b) j))
+      take_counts = take_counted t b j a q t₁ i u x (rw (e, d) at g) (rw (e, d) at h) f k
 
 -- a chain taken in
 module _ (t₀ t b : List ℕ) (r : ℕ) (c : Chained t₀ b r) (j a n : ℕ) (g : Along t₀ t b r j a n) where

@@ -2,7 +2,7 @@
 // linear.
 #![tactic(auto)]
 
-ghost use Rattle.std.specs.Prelude.{◌≡◌, ◌+◌, max};
+ghost use Rattle.std.specs.Prelude.{◌≡◌, ◌+◌};
 ghost use Rattle.model.specs.Records.{place};
 ghost use Rattle.model.specs.Tables.{decode, encode};
 ghost use Rattle.model.specs.Merge.{merged_records, merged, changes};
@@ -19,10 +19,7 @@ fn take(own: &mut [u64], link: usize, other: &[u64], j: usize) -> usize
     let label = layout::label_at(other, j);
     let i = merge_seek::space(own, link, relation, label);
     let changed = merge_join::join(own, i, other, j);
-    if changed | (used < i) {
-        return 1;
-    }
-    0
+    usize::from(changed | (used < i))
 }
 
 // Takes in the records of a relation, both chains side by side; how many were changed or added.
@@ -46,19 +43,11 @@ fn take_chains(own: &mut [u64], other: &[u64]) -> usize
     ensures words { own.new ≡ encode (with_records (decode own.old) (merged_records (records_in own.old) (records_in other.now))) }
     ensures count { result ≡ changes (records_in own.old) (merged_records (records_in own.old) (records_in other.now)) }
 {
-    let mut relation = 1;
     let mut count = 0;
-    while relation <= layout::MOST_RELATIONS {
+    for relation in 1..=layout::MOST_RELATIONS {
         count += take_chain(own, other, relation);
-        relation += 1;
     }
     count
-}
-
-fn larger(x: u64, y: u64) -> u64
-    ensures { result ≡ max x y }
-{
-    if x < y { y } else { x }
 }
 
 // Merges the other table into the own, where there is room for its records; how many records were changed or added.
@@ -67,7 +56,7 @@ pub fn act(own: &mut [u64], other: &[u64]) -> usize
     ensures words { own.new ≡ encode (merged (decode own.old) (decode other.now)) }
     ensures count { result ≡ changes (records_in own.old) (merged_records (records_in own.old) (records_in other.now)) }
 {
-    let clock = larger(layout::clock(own), layout::clock(other));
+    let clock = layout::clock(own).max(layout::clock(other));
     let count = take_chains(own, other);
     layout::store(own, layout::CLOCK_WORD, clock);
     count

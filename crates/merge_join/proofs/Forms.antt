@@ -49,6 +49,12 @@ pub flag_is : (t t' b : List ℕ) (i j x y f at : ℕ) → x ≡ flag_at t i →
 unfolding flag_joined
 flag_is t t' b i j x y f at a c m n g h e = e ∙ rw (h, g (omega arith) (omega arith), a, c)
 
+-- an unchanged flag: there is nothing to store
+pub flag_stays : (t b : List ℕ) (i j x y : ℕ) → x ≡ flag_at t i → y ≡ flag_at b j → flag_at t i ≤ largest_flag → flag_at b j ≤ largest_flag
+    → (x ≤ largest_flag → y ≤ largest_flag → x ≡ max x y) → t ≡ flag_joined t i b j
+unfolding flag_at
+flag_stays t b i j x y a c m n g = flag_is t t b i j x y x (base i) a c m n g refl (stored t (base i + 3) x a)
+
 pub join_is : (t t₁ t₂ b : List ℕ) (i j : ℕ) → t₁ ≡ flag_joined t i b j → t₂ ≡ fields_joined fields t₁ i b j → t₂ ≡ record_joined t i b j
 unfolding record_joined
 join_is t t₁ t₂ b i j e d = d ∙ rw e

@@ -13,18 +13,16 @@ fn join_field(own: &mut [u64], i: usize, other: &[u64], j: usize, f: usize) -> b
     ensures changed { result ≡ field_changed own.old i other.now j f }
 {
     let old = crdt::Register {
-        value: layout::value_at(own, i, f),
         stamp: layout::stamp_at(own, i, f),
+        value: layout::value_at(own, i, f),
     };
     let new = crdt::Register {
-        value: layout::value_at(other, j, f),
         stamp: layout::stamp_at(other, j, f),
+        value: layout::value_at(other, j, f),
     };
-    let joined = crdt::join_registers(old, new);
-    if !joined.changed {
+    let Some(register) = crdt::join_registers(old, new) else {
         return false;
-    }
-    let register = joined.register;
+    };
     let at = layout::base(i) + (layout::HEAD_WORDS - 1);
     layout::store(own, at + f, register.value);
     layout::store(own, at + layout::FIELDS + f, register.stamp);
@@ -36,12 +34,9 @@ fn join_fields(own: &mut [u64], i: usize, other: &[u64], j: usize) -> bool
     ensures words { own.new ≡ fields_joined fields own.old i other.now j }
     ensures changed { result ≡ fields_changed fields own.old i other.now j }
 {
-    let mut done = 0;
     let mut changed = false;
-    while done < layout::FIELDS {
-        let one = join_field(own, i, other, j, done + 1);
-        changed = changed | one;
-        done += 1;
+    for done in 0..layout::FIELDS {
+        changed |= join_field(own, i, other, j, done + 1);
     }
     changed
 }
@@ -52,8 +47,11 @@ fn join_flag(own: &mut [u64], i: usize, other: &[u64], j: usize) -> bool
     ensures changed { result ≡ flag_changed own.old i other.now j }
 {
     let joined = crdt::join_flags(layout::flag_at(own, i), layout::flag_at(other, j));
-    layout::store(own, layout::base(i) + layout::FLAG_WORD, joined.flag);
-    joined.changed
+    let Some(flag) = joined else {
+        return false;
+    };
+    layout::store(own, layout::base(i) + layout::FLAG_WORD, flag);
+    true
 }
 
 // Joins record `j` of the other table into record `i`: register by register and flag by flag. Whether one of them changed.

@@ -6,7 +6,14 @@ ghost use Rattle.std.specs.Prelude.{◌≡◌, ℕ, ◌≤◌};
 ghost use Rattle.model.specs.Layout.{most_relations, most_records, used_at};
 ghost use Rattle.model.specs.Records.{place, position};
 ghost use Rattle.model.specs.Tables.{decode, encode};
-ghost use Rattle.merge_laws.specs.Absorb.{records_in, with_records, spaced, Linked, precedes, meets, Sought, Seekable, Open, added};
+ghost use Rattle.merge_laws.specs.Absorb.{records_in, with_records, spaced, Whole, Linked, precedes, meets, Sought, Seekable, Open, added};
+
+// A table whose words are the encoding of a value that fits it, so that its chains lead through its records.
+#[derive(Clone, Copy)]
+pub struct WholeTable<'a> {
+    pub words: &'a [u64],
+    pub ghost whole: { Whole words.now },
+}
 
 // Whether the record that word `link` leads to has a label below `label`.
 fn precedes(own: &[u64], link: usize, label: u64) -> bool

@@ -5,17 +5,19 @@ use mathlib.Core.Path.{◌≡◌, sym, ◌∙◌, ap}
 use mathlib.Core.Logic.{◌⊎◌, inl, inr}
 use mathlib.Core.List.{List}
 use native.Mathlib.Omega.{arith}
-use lib.ListN.{length, get_or, set}
+use lib.ListN.{length, get_or, set, take}
 use lib.Seq.{get_or-set_same, get_or-set_other}
+use Rattle.std.proofs.lemmas.List.{get_or-take, length-take-le}
 use Rattle.crdt.proofs.Tests.{Tri, low, same, high, tri}
-use Rattle.model.specs.Layout.{most_relations, used_at, first_at, next_at, relation_at}
-use Rattle.model.specs.Records.{Rec, label_span, place, relation, has}
+use Rattle.model.specs.Layout.{most_relations, most_records, used_at, first_at, next_at, relation_at}
+use Rattle.model.specs.Records.{Rec, label_span, place}
 use Rattle.model.specs.Tables.{decode, follower}
 use Rattle.wellformed.proofs.Follow.{record_at, Follows, Last, follows, follows_is, last_is}
 use Rattle.wellformed.proofs.Links.{formed_first, formed_next}
-use Rattle.references.specs.Order.{Checked, key_at, Ordered}
+use Rattle.judged.specs.Checked.{Checked}
+use Rattle.references.specs.Order.{key_at, Ordered}
 use Rattle.references.proofs.Room.{room, room_more}
-use Rattle.references.proofs.Places.{recs_length, recs_distinct, no_key, at_position, label_bounds, relation_least, relation_most, key_is, key_relation, has_key, same_key}
+use Rattle.references.proofs.Places.{used_most, recs_length, recs_distinct, no_key, at_position, label_bounds, relation_least, relation_most, key_is, key_relation, has_key, same_key}
 
 -- an entry after a store
 pub entry_last : (o : List ℕ) (n x : ℕ) → n < length o → get_or (set o n x) n 0 ≡ x
@@ -24,6 +26,27 @@ entry_last o n x h = get_or-set_same o n x 0 h
 pub entry_before : (o : List ℕ) (n x j : ℕ) → j < n → get_or (set o n x) j 0 ≡ get_or o j 0
 entry_before o n x j h = get_or-set_other o n j x 0 (λ e. omega arith)
 
+-- the entries alone
+pub order_cut : (t : List ℕ) (k : ℕ) (o : List ℕ) (n : ℕ) → n ≤ length o → Ordered t k o n → Ordered t k (take n o) n
+order_cut t k o n fits h =
+    record {
+      least = λ j l. rw (at j l) (h.least j l);
+      within = λ j l. rw (at j l) (h.within j l);
+      upto = λ j l. rw (at j l) (h.upto j l);
+      rising = λ i j l m. rw (at i (omega arith), at j m) (h.rising i j l m);
+      all = λ i a b l. let r = h.all i a b l in (r.0, r.1, at r.0 r.1 ∙ r.2);
+    }
+  where
+    at : (j : ℕ) → j < n → get_or (take n o) j 0 ≡ get_or o j 0
+    at j l = get_or-take n o j 0 l
+
+-- and an array of keys beside them
+pub order_pair : (t : List ℕ) (k : ℕ) (o a : List ℕ) (n : ℕ) → n ≤ length o → n ≤ length a → Ordered t k o n
+    → (length (take n a) ≡ length (take n o)) × Ordered t k (take n o) (length (take n o))
+order_pair t k o a n fits room h =
+    let e = length-take-le n o fits in
+    (omega (arith, e, length-take-le n a room), rw e (order_cut t k o n fits h))
+
 -- Along the chain of relation r: the records up to a key are listed, and i is what follows it.
 pub record Along (t : List ℕ) (r i : ℕ) (o : List ℕ) (n : ℕ) : Type 0 where
   pub last : ℕ
@@ -31,6 +54,14 @@ pub record Along (t : List ℕ) (r i : ℕ) (o : List ℕ) (n : ℕ) : Type 0 wh
   pub above : place r 0 ≤ last
   pub below : last < place (r + 1) 0
   pub next : i ≡ follower (decode t).records r last
+
+-- What a turn of the walk knows: a record at i, and room for it.
+pub record Turn (t : List ℕ) (n i l : ℕ) : Type 0 where
+  pub least : 1 ≤ i
+  pub most : i ≤ used_at t
+  pub small : used_at t ≤ most_records
+  pub few : n < used_at t
+  pub room : n < l
 
 module _ (s t : List ℕ) (c : Checked s t) where
   abbrev recs : List Rec
@@ -144,10 +175,10 @@ module _ (s t : List ℕ) (c : Checked s t) where
         go (inl f) = f
         go (inr f) = absurd (some f.none)
 
-    pub along_least : 1 ≤ i
+    along_least : 1 ≤ i
     along_least = met.here
 
-    pub along_most : i ≤ used_at t
+    along_most : i ≤ used_at t
     along_most = met_within r w.last i met
 
     key : (record_at recs i).key ≡ key_at t i
@@ -167,8 +198,14 @@ module _ (s t : List ℕ) (c : Checked s t) where
         go (same m) = omega (arith, key, met.least (key_at t p) (has_key s t c p a b) (sym m) l)
         go (high m) = absurd (omega (arith, w.above))
 
-    pub along_room : n < used_at t
+    along_room : n < used_at t
     along_room = order_more w.last o n w.ordered i along_least along_most up
+
+    pub along_turn : most_records ≤ length o → Turn t n i (length o)
+    along_turn l =
+        let m = used_most s t c in
+        let f = along_room in
+        record { least = along_least; most = along_most; small = m; few = f; room = omega arith }
 
     pub along_step : (m : ℕ) → n < length o → m ≡ next_at t i → Along t r m (set o n i) (n + 1)
     along_step m fits e =

@@ -21,7 +21,8 @@ use Rattle.wellformed.proofs.Follow.{no_rec, record_at, has_record, position_non
 use Rattle.wellformed.proofs.ValidParts.{ValidTable, valid_table, no_zero}
 use Rattle.wellformed.proofs.Facts.{table_sized, SoundSchema, schema_sound, Formed, formed, Ruled, ruled, label_span_lem}
 use Rattle.wellformed.proofs.Values.{formed_valid}
-use Rattle.references.specs.Order.{Checked, key_at}
+use Rattle.judged.specs.Checked.{Checked}
+use Rattle.references.specs.Order.{key_at}
 
 -- a field that keeps the rule and is a reference holds a number below the span of labels
 rule_value : (k v st : ℕ) → is_reference k ≡ true → field_rule k v st ≡ true → v < label_span

@@ -4,24 +4,16 @@ use Prim.Native.Nat.{ℕ, ◌+◌, ◌*◌, ◌-◌, ◌/◌, ◌≤◌, ◌<◌
 use mathlib.Core.Path.{◌≡◌}
 use mathlib.Core.List.{List}
 use native.Mathlib.Omega.{arith}
-use lib.ListN.{get_or}
+use lib.ListN.{length, get_or}
 use Rattle.crdt.proofs.Tests.{Tri, low, same, high, tri}
-use Rattle.references.specs.Search.{Sorted, Lower}
+use Rattle.references.specs.Search.{Sorted}
 
--- the place of x lies in the `rest` entries before `high`, or at `high`
-pub record Between (a : List ℕ) (from to x hi rest : ℕ) : Type 0 where
-  pub part : from + rest ≤ hi
-  pub most : hi ≤ to
-  pub below : (j : ℕ) → from ≤ j → j + rest < hi → get_or a j 0 < x
-  pub above : (j : ℕ) → hi ≤ j → j < to → x ≤ get_or a j 0
-
-pub between_start : (a : List ℕ) (from to x : ℕ) → from ≤ to → Between a from to x to (to - from)
-between_start a from to x p =
-    record { part = omega arith; most = omega arith; below = λ j l m. absurd (omega arith); above = λ j l m. absurd (omega arith) }
-
-pub between_end : (a : List ℕ) (from to x hi rest : ℕ) → Between a from to x hi rest → rest ≤ 0 → Lower a from to x hi
-between_end a from to x hi rest b z =
-    record { least = omega (arith, b.part); most = b.most; below = λ j l m. b.below j l (omega arith); above = b.above }
+-- the place of x lies in the `rest` entries before `hi`, or at `hi`
+pub record Between (a : List ℕ) (x hi rest : ℕ) : Type 0 where
+  pub part : rest ≤ hi
+  pub most : hi ≤ length a
+  pub below : (j : ℕ) → j + rest < hi → get_or a j 0 < x
+  pub above : (j : ℕ) → hi ≤ j → j < length a → x ≤ get_or a j 0
 
 -- a number that is 1 or 0, multiplied
 abbrev pub Least : ℕ → ℕ → ℕ → Type 0
@@ -47,36 +39,36 @@ module _ (y x r h : ℕ) (e : Least y x r) where
       go (lower p q) = omega arith
       go (upper p q) = omega arith
 
-module _ (a : List ℕ) (from to x hi rest y r : ℕ) (s : Sorted a from to) (b : Between a from to x hi rest) (some : 0 < rest)
+module _ (a : List ℕ) (x hi rest y r : ℕ) (s : Sorted a) (b : Between a x hi rest) (some : 0 < rest)
     (at : y ≡ get_or a (hi - (rest - rest / 2)) 0) (e : Least y x r) where
   abbrev mid : ℕ
   mid = hi - (rest - rest / 2)
 
-  step : (m : ℕ) → Cut y x (rest - rest / 2) m → Between a from to x (hi - m) (rest / 2)
+  step : (m : ℕ) → Cut y x (rest - rest / 2) m → Between a x (hi - m) (rest / 2)
   step m (lower p q) =
       record {
         part = omega (arith, b.part);
         most = omega (arith, b.most);
-        below = λ j l n. b.below j l (omega (arith, b.part));
+        below = λ j l. b.below j (omega (arith, b.part));
         above = λ j l n. go j l n (tri mid j);
       }
     where
-      go : (j : ℕ) → hi - m ≤ j → j < to → Tri mid j → x ≤ get_or a j 0
-      go j l n (low k) = omega (arith, s.rising mid j (omega (arith, b.part)) k n)
+      go : (j : ℕ) → hi - m ≤ j → j < length a → Tri mid j → x ≤ get_or a j 0
+      go j l n (low k) = omega (arith, s.rising mid j k n)
       go j l n (same k) = rw (← k) (omega arith)
       go j l n (high k) = absurd (omega arith)
   step m (upper p q) =
       record {
         part = omega (arith, b.part);
         most = omega (arith, b.most);
-        below = λ j l n. go j l n (tri j mid);
+        below = λ j l. go j l (tri j mid);
         above = λ j l n. b.above j (omega arith) n;
       }
     where
-      go : (j : ℕ) → from ≤ j → j + rest / 2 < hi - m → Tri j mid → get_or a j 0 < x
-      go j l n (low k) = omega (arith, s.rising j mid l k (omega (arith, b.part, b.most)))
-      go j l n (same k) = rw k (omega arith)
-      go j l n (high k) = absurd (omega (arith, b.part))
+      go : (j : ℕ) → j + rest / 2 < hi - m → Tri j mid → get_or a j 0 < x
+      go j l (low k) = omega (arith, s.rising j mid k (omega (arith, b.part, b.most)))
+      go j l (same k) = rw k (omega arith)
+      go j l (high k) = absurd (omega (arith, b.part))
 
-  pub between_step : Between a from to x (hi - (rest - rest / 2) * r) (rest / 2)
+  pub between_step : Between a x (hi - (rest - rest / 2) * r) (rest / 2)
   between_step = step ((rest - rest / 2) * r) (cut y x r (rest - rest / 2) e)

@@ -1,17 +1,8 @@
--- What the resolving of references asks of its schema and table, and what its array of positions in list order holds.
+-- What the array of positions in list order holds.
 -- Assumes nothing.
-use Rattle.std.specs.Prelude.{ℕ, ◌≤◌, ◌<◌, ◌≡◌, true, false, List, get_or}
+use Rattle.std.specs.Prelude.{ℕ, ◌≤◌, ◌<◌, ◌≡◌, List, get_or}
 use Rattle.model.specs.Layout.{used_at}
-use Rattle.model.specs.Schemas.{broken}
 use Rattle.model.specs.Tables.{record_of}
-use Rattle.model.specs.WellFormed.{well_formed}
-use Rattle.model.specs.Calls.{table_length}
-
--- A schema that is not broken, and a well-formed table of a table's length.
-pub record Checked (s t : List ℕ) : Type 0 where
-  pub schema : broken s ≡ false
-  pub long : table_length t ≡ true
-  pub formed : well_formed s t ≡ true
 
 -- The key of record i.
 abbrev pub key_at : List ℕ → ℕ → ℕ

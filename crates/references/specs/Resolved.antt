@@ -1,6 +1,6 @@
 -- The scratch of the shown marks: each reference resolved once to a position, and one mark per record.
 -- Assumes nothing.
-use Rattle.std.specs.Prelude.{ℕ, ◌+◌, ◌*◌, ◌-◌, ◌≤◌, ◌<◌, ◌≡◌, ◌⊎◌, Bool, cond, ◌&&◌, not, List, eqb, get_or}
+use Rattle.std.specs.Prelude.{ℕ, ◌+◌, ◌*◌, ◌-◌, ◌≤◌, ◌<◌, ◌≡◌, ◌⊎◌, cond, ◌&&◌, not, List, eqb, get_or}
 use Rattle.model.specs.Layout.{fields, kind_at, used_at, relation_at, value_at}
 use Rattle.model.specs.Schemas.{abort_kinds, is_reference, leads_to}
 use Rattle.model.specs.Records.{Rec, place, has, position}

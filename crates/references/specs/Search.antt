@@ -1,4 +1,4 @@
--- The keys of the records in list order, and the part of a relation in them.
+-- The records of a table in list order, their keys, and the records of one relation among them.
 -- Assumes nothing.
 use Rattle.std.specs.Prelude.{ℕ, ◌≤◌, ◌<◌, ◌≡◌, List, length, get_or}
 use Rattle.model.specs.Layout.{used_at, relation_at}
@@ -8,30 +8,33 @@ use Rattle.references.specs.Order.{key_at}
 abbrev pub half_word : ℕ
 half_word = 9223372036854775808
 
--- The entries from `from` to before `to` rise, and are below half a word.
-pub record Sorted (a : List ℕ) (from to : ℕ) : Type 0 where
-  pub part : from ≤ to
-  pub room : to ≤ length a
-  pub small : (j : ℕ) → from ≤ j → j < to → get_or a j 0 < half_word
-  pub rising : (i j : ℕ) → from ≤ i → i < j → j < to → get_or a i 0 < get_or a j 0
+-- The entries rise, and are below half a word.
+pub record Sorted (a : List ℕ) : Type 0 where
+  pub small : (j : ℕ) → j < length a → get_or a j 0 < half_word
+  pub rising : (i j : ℕ) → i < j → j < length a → get_or a i 0 < get_or a j 0
 
--- The place of x in these entries: those before it are smaller, and the others are not.
-pub record Lower (a : List ℕ) (from to x r : ℕ) : Type 0 where
-  pub least : from ≤ r
-  pub most : r ≤ to
-  pub below : (j : ℕ) → from ≤ j → j < r → get_or a j 0 < x
-  pub above : (j : ℕ) → r ≤ j → j < to → x ≤ get_or a j 0
+-- The place of x among the entries: those before it are smaller, and the others are not.
+pub record Lower (a : List ℕ) (x r : ℕ) : Type 0 where
+  pub most : r ≤ length a
+  pub below : (j : ℕ) → j < r → get_or a j 0 < x
+  pub above : (j : ℕ) → r ≤ j → j < length a → x ≤ get_or a j 0
 
--- The keys of the records at the first n positions of an array.
-pub record Keyed (t o : List ℕ) (n : ℕ) (a : List ℕ) : Type 0 where
-  pub at : (j : ℕ) → j < n → get_or a j 0 ≡ key_at t (get_or o j 0)
+-- An array of positions of records, and one of their keys.
+pub record Keyed (t o a : List ℕ) : Type 0 where
+  pub long : length a ≡ length o
+  pub least : (j : ℕ) → j < length o → 1 ≤ get_or o j 0
+  pub within : (j : ℕ) → j < length o → get_or o j 0 ≤ used_at t
+  pub at : (j : ℕ) → j < length o → get_or a j 0 ≡ key_at t (get_or o j 0)
 
--- The entries from `from` to before `to` are the records of relation r in list order, and their keys.
-pub record Holds (t o a : List ℕ) (r from to : ℕ) : Type 0 where
-  pub sorted : Sorted a from to
-  pub room : to ≤ length o
-  pub least : (j : ℕ) → from ≤ j → j < to → 1 ≤ get_or o j 0
-  pub within : (j : ℕ) → from ≤ j → j < to → get_or o j 0 ≤ used_at t
-  pub keyed : (j : ℕ) → from ≤ j → j < to → get_or a j 0 ≡ key_at t (get_or o j 0)
-  pub related : (j : ℕ) → from ≤ j → j < to → relation_at t (get_or o j 0) ≡ r
-  pub all : (i : ℕ) → 1 ≤ i → i ≤ used_at t → relation_at t i ≡ r → (j : ℕ) × (from ≤ j) × (j < to) × (get_or o j 0 ≡ i)
+-- All records in list order, and their keys: none is missing.
+pub record Lists (t o a : List ℕ) : Type 0 where
+  pub keyed : Keyed t o a
+  pub sorted : Sorted a
+  pub all : (i : ℕ) → 1 ≤ i → i ≤ used_at t → ((j : ℕ) → j < length o → get_or o j 0 ≡ i → ⊥) → ⊥
+
+-- The records of relation r in list order, and their keys: none is missing.
+pub record Holds (t o a : List ℕ) (r : ℕ) : Type 0 where
+  pub keyed : Keyed t o a
+  pub sorted : Sorted a
+  pub related : (j : ℕ) → j < length o → relation_at t (get_or o j 0) ≡ r
+  pub all : (i : ℕ) → 1 ≤ i → i ≤ used_at t → relation_at t i ≡ r → ((j : ℕ) → j < length o → get_or o j 0 ≡ i → ⊥) → ⊥

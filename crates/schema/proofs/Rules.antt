@@ -9,9 +9,10 @@ use native.Mathlib.Nat.{one-mul, mod-eq_of_lt}
 use lib.Pow.{pow-lt}
 use lib.Dec.{leb, eqb}
 use borrow.Author.Tests.{lt-leb, le-leb}
-use Rattle.model.specs.Layout.{fields, most_relations, block, word, relations, field_count, kind_at, mask_at}
+use Rattle.model.specs.Layout.{fields, most_relations, word, relations}
+use Rattle.model.specs.Shapes.{block_in, count_in, kind_in, mask_in, block_rule_in, empty_block_in, broken_in}
 use Rattle.model.specs.Lists.{each}
-use Rattle.model.specs.Schemas.{kind_rule, mask_rule, block_rule, empty_block, broken}
+use Rattle.model.specs.Schemas.{kind_rule, mask_rule, broken}
 use Rattle.model.specs.Lists.{lowest}
 use Rattle.model.specs.Calls.{schema_length, schema_number}
 use Rattle.layout.proofs.Each.{each_more}
@@ -28,52 +29,50 @@ module _ {x : Bool} (j n : ℕ) (a b : Bool) where
   pub above : n < j → x ≡ b → x ≡ cond (leb j n) a b
   above h e = rw (lt-leb j n h) e
 
--- a block of too few or too many fields, and any other
-module _ (s : List ℕ) (r count : ℕ) (e : count ≡ field_count s r) where
-  pub block_low : count < 1 → false ≡ block_rule s r
-  unfolding block_rule
-  block_low h = rw (← e, lt-leb 1 count h)
+-- of a schema of w fields
+module _ (w : ℕ) (s : List ℕ) where
+  -- a block of too few or too many fields, and any other
+  module _ (r count : ℕ) (e : count ≡ count_in w s r) where
+    pub block_low : count < 1 → false ≡ block_rule_in w s r
+    unfolding block_rule_in
+    block_low h = rw (← e, lt-leb 1 count h)
 
-  pub block_high : fields < count → false ≡ block_rule s r
-  unfolding block_rule
-  block_high h = rw (← e, lt-leb count fields h, and-false)
+    pub block_high : w < count → false ≡ block_rule_in w s r
+    unfolding block_rule_in
+    block_high h = rw (← e, lt-leb count w h, and-false)
 
-  pub block_tested : (kinds key1 key2 : Bool) (m1 m2 m3 : ℕ) → 1 ≤ count → count ≤ fields
-      → kinds ≡ each fields (λ j. cond (leb j (field_count s r)) (kind_rule (relations s) (kind_at s r j)) (eqb (kind_at s r j) 0))
-      → m1 ≡ mask_at s r 1 → m2 ≡ mask_at s r 2 → m3 ≡ mask_at s r 3 → key1 ≡ mask_rule count m1 → key2 ≡ mask_rule count m2
-      → (kinds && key1 && key2 && eqb m3 0) ≡ block_rule s r
-  unfolding block_rule
-  block_tested kinds key1 key2 m1 m2 m3 h g p f1 f2 f3 q1 q2 = rw (p, q1, q2, f1, f2, f3, ← e, le-leb 1 count h, le-leb count fields g)
+    pub block_tested : (kinds key1 key2 : Bool) (m1 m2 m3 : ℕ) → 1 ≤ count → count ≤ w
+        → kinds ≡ each w (λ j. cond (leb j (count_in w s r)) (kind_rule (relations s) (kind_in w s r j)) (eqb (kind_in w s r j) 0))
+        → m1 ≡ mask_in w s r 1 → m2 ≡ mask_in w s r 2 → m3 ≡ mask_in w s r 3 → key1 ≡ mask_rule count m1 → key2 ≡ mask_rule count m2
+        → (kinds && key1 && key2 && eqb m3 0) ≡ block_rule_in w s r
+    unfolding block_rule_in
+    block_tested kinds key1 key2 m1 m2 m3 h g p f1 f2 f3 q1 q2 = rw (p, q1, q2, f1, f2, f3, ← e, le-leb 1 count h, le-leb count w g)
 
--- word j + 1 of an empty block
-pub empty_more : (good : Bool) (s : List ℕ) (r j from x : ℕ) → from ≡ block r → x ≡ word s (from + j)
-    → good ≡ each j (λ k. eqb (word s (block r + (k - 1))) 0) → (good && eqb x 0) ≡ each (j + 1) (λ k. eqb (word s (block r + (k - 1))) 0)
-empty_more good s r j from x e f g = let z : from + j ≡ block r + (j + 1 - 1) = omega arith in each_more good (eqb x 0) j _ g (rw (f, z))
+  -- word j + 1 of an empty block
+  pub empty_more : (good : Bool) (r j from x : ℕ) → from ≡ block_in w r → x ≡ word s (from + j)
+      → good ≡ each j (λ k. eqb (word s (block_in w r + (k - 1))) 0) → (good && eqb x 0) ≡ each (j + 1) (λ k. eqb (word s (block_in w r + (k - 1))) 0)
+  empty_more good r j from x e f g = let z : from + j ≡ block_in w r + (j + 1 - 1) = omega arith in each_more good (eqb x 0) j _ g (rw (f, z))
 
--- the number of relations out of range, and in it
-module _ (s : List ℕ) (most : ℕ) (e : most ≡ relations s) where
-  pub broken_low : most < 1 → true ≡ broken s
-  unfolding broken
-  broken_low h = rw (← e, lt-leb 1 most h)
+  -- the number of relations out of range, and in it
+  module _ (most : ℕ) (e : most ≡ relations s) where
+    pub broken_low : most < 1 → true ≡ broken_in w s
+    unfolding broken_in
+    broken_low h = rw (← e, lt-leb 1 most h)
 
-  pub broken_high : most_relations < most → true ≡ broken s
-  unfolding broken
-  broken_high h = rw (← e, lt-leb most most_relations h, and-false)
+    pub broken_high : most_relations < most → true ≡ broken_in w s
+    unfolding broken_in
+    broken_high h = rw (← e, lt-leb most most_relations h, and-false)
 
-  pub broken_tested : (good : Bool) → 1 ≤ most → most ≤ most_relations
-      → good ≡ each most_relations (λ r. cond (leb r (relations s)) (block_rule s r) (empty_block s r)) → not good ≡ broken s
-  unfolding broken
-  broken_tested good h g p = rw (p, ← e, le-leb 1 most h, le-leb most most_relations g)
+    pub broken_tested : (good : Bool) → 1 ≤ most → most ≤ most_relations
+        → good ≡ each most_relations (λ r. cond (leb r (relations s)) (block_rule_in w s r) (empty_block_in w s r)) → not good ≡ broken_in w s
+    unfolding broken_in
+    broken_tested good h g p = rw (p, ← e, le-leb 1 most h, le-leb most most_relations g)
 
--- a kind in its place, of the schema's own words
-pub kind_at_place : {x : Bool} (s : List ℕ) (r j most count kind : ℕ) → most ≡ relations s → count ≡ field_count s r → kind ≡ kind_at s r j
-    → x ≡ cond (leb j count) (kind_rule most kind) (eqb kind 0)
-    → x ≡ cond (leb j (field_count s r)) (kind_rule (relations s) (kind_at s r j)) (eqb (kind_at s r j) 0)
-kind_at_place s r j most count kind e f g p = rw (e, f, g) at p
-
--- a block in its place
-pub block_at_place : {x : Bool} (s : List ℕ) (r most : ℕ) (a b : Bool) → most ≡ relations s → x ≡ cond (leb r most) a b → x ≡ cond (leb r (relations s)) a b
-block_at_place s r most a b e p = rw e at p
+  -- a kind in its place, of the schema's own words
+  pub kind_at_place : {x : Bool} (r j most count kind : ℕ) → most ≡ relations s → count ≡ count_in w s r → kind ≡ kind_in w s r j
+      → x ≡ cond (leb j count) (kind_rule most kind) (eqb kind 0)
+      → x ≡ cond (leb j (count_in w s r)) (kind_rule (relations s) (kind_in w s r j)) (eqb (kind_in w s r j) 0)
+  kind_at_place r j most count kind e f g p = rw (e, f, g) at p
 
 -- the answers
 pub check_length : (s : List ℕ) → schema_length s ≡ false → 1 ≡ schema_number s

@@ -7,7 +7,7 @@ use mathlib.Core.List.{List, [], ◌∷◌, ◌++◌, append_assoc, append-nil}
 use native.Mathlib.Omega.{arith}
 use lib.Dec.{leb}
 use lib.ListN.{length, get_or, set, take, drop, length-drop, drop_of_length-le}
-use lib.Seq.{paste, paste-suc, length-paste, take-paste, take_all, drop-drop, drop-cons, get_or-drop}
+use lib.Seq.{paste, paste-suc, length-paste, take-paste, take_all, drop-drop, drop-cons}
 use borrow.Author.Tests.{le-leb, lt-leb}
 use borrow.Rule.Slice.PartMut.{put_mid}
 use Rattle.model.specs.Layout.{head_words, word}
@@ -18,13 +18,6 @@ use Rattle.shape_turn.specs.Rows.{fields_after, row_turned, block_turned}
 -- a word more of what is pasted
 pub word_pasted : (to₀ to s : List ℕ) (b j x : ℕ) → b + j < length to₀ → j < length s → x ≡ get_or s j 0 → to ≡ paste to₀ b s j → set to (b + j) x ≡ paste to₀ b s (j + 1)
 word_pasted to₀ to s b j x h g f e = let z : j + 1 ≡ suc j = omega arith in rw (e, z, f) (paste-suc to₀ b s j 0 h g)
-
-pub paste_turn : (from to₀ to : List ℕ) (a b j : ℕ) → b + j < length to₀ → a + j < length from → to ≡ paste to₀ b (drop a from) j
-    → set to (b + j) (get_or from (a + j) 0) ≡ paste to₀ b (drop a from) (j + 1)
-paste_turn from to₀ to a b j h g e = word_pasted to₀ to (drop a from) b j (get_or from (a + j) 0) h (omega (arith, length-drop a from)) (sym (get_or-drop a from j 0)) e
-
-pub paste_whole : (to₀ to s : List ℕ) (b n j : ℕ) → j ≤ n → n ≤ j → to ≡ paste to₀ b s j → to ≡ paste to₀ b s n
-paste_whole to₀ to s b n j h g e = let z : j ≡ n = omega arith in rw z at e
 
 -- one field
 pub field_is : (t : List ℕ) (p v j : ℕ) → j ≤ v → get_or t (p + j) 0 ≡ cond (leb j v) (word t (p + j)) 0

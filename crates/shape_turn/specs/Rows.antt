@@ -1,6 +1,6 @@
 -- A row of a table and a block of a schema, v fields turned into w, by the word where it begins.
 -- Assumes nothing.
-use Rattle.std.specs.Prelude.{ℕ, ◌+◌, ◌-◌, cond, List, [], ◌∷◌, ◌++◌, leb}
+use Rattle.std.specs.Prelude.{ℕ, ◌+◌, ◌-◌, List, [], ◌∷◌, ◌++◌}
 use Rattle.model.specs.Layout.{head_words, word}
 use Rattle.model.specs.Shapes.{fields_turned}
 

@@ -11,9 +11,9 @@ use lib.Dec.{leb, ltb, eqb}
 use lib.ListN.{length}
 use borrow.Author.Tests.{ltb-true, leb-true, leb-false, le-leb, lt-leb, eqb-true, eqb-false, eq-eqb, ne_eqb}
 use Rattle.crdt.proofs.Tests.{test, clash, or_cases, and_left, and_right, and_both}
-use Rattle.model.specs.Layout.{most_relations, used_at, first_at, next_at, relation_at, label_at}
+use Rattle.model.specs.Layout.{most_relations, used_at, first_at}
+use Rattle.model.specs.Shapes.{next_in, relation_in, label_in, chain_from_in, chain_in, chain_step_in, rises_in, chains_rise_in, on_chain_in}
 use Rattle.model.specs.Lists.{each, any, some_of, all_of}
-use Rattle.model.specs.WellFormed.{chain_from, chain_of, chain_step, rises, chains_rise, on_chain}
 use Rattle.layout.proofs.Each.{each_at, each_all, each_both, each_fail}
 
 bit : Bool → ℕ
@@ -84,41 +84,42 @@ sum_occ (i ∷ l) n w =
     sum_add n (λ k. bit (eqb k i)) (λ k. occ k l) ∙ rw (sum_delta n i w.0, sum_occ l n w.2, le-leb i n w.1) (omega arith)
 
 -- a rising list, taken apart
-module _ (t : List ℕ) (r : ℕ) where
-  pub step_says : (low i : ℕ) → chain_step t r low i ≡ true → (i ≤ used_at t) × (relation_at t i ≡ r) × (low < label_at t i)
-  unfolding chain_step
+module _ (w : ℕ) (t : List ℕ) (r : ℕ) where
+  pub step_says : (low i : ℕ) → chain_step_in w t r low i ≡ true → (i ≤ used_at t) × (relation_in w t i ≡ r) × (low < label_in w t i)
+  unfolding chain_step_in
   step_says low i e =
-      let a = and_left (leb i (used_at t) && eqb (relation_at t i) r && ltb low (label_at t i)) (leb (next_at t i) (used_at t)) e in
-      let b = and_left (leb i (used_at t) && eqb (relation_at t i) r) (ltb low (label_at t i)) a in (
-        leb-true i (used_at t) (and_left (leb i (used_at t)) (eqb (relation_at t i) r) b),
-        eqb-true (relation_at t i) r (and_right (leb i (used_at t)) (eqb (relation_at t i) r) b),
-        ltb-true low (label_at t i) (and_right (leb i (used_at t) && eqb (relation_at t i) r) (ltb low (label_at t i)) a),
+      let a = and_left (leb i (used_at t) && eqb (relation_in w t i) r && ltb low (label_in w t i)) (leb (next_in w t i) (used_at t)) e in
+      let b = and_left (leb i (used_at t) && eqb (relation_in w t i) r) (ltb low (label_in w t i)) a in (
+        leb-true i (used_at t) (and_left (leb i (used_at t)) (eqb (relation_in w t i) r) b),
+        eqb-true (relation_in w t i) r (and_right (leb i (used_at t)) (eqb (relation_in w t i) r) b),
+        ltb-true low (label_in w t i) (and_right (leb i (used_at t) && eqb (relation_in w t i) r) (ltb low (label_in w t i)) a),
       )
 
-  rises_head : (low i : ℕ) (l : List ℕ) → rises t r low (i ∷ l) ≡ true → (i ≤ used_at t) × (relation_at t i ≡ r) × (low < label_at t i)
-  unfolding rises
-  rises_head low i l e = step_says low i (and_left (chain_step t r low i) (rises t r (label_at t i) l) e)
+  rises_head : (low i : ℕ) (l : List ℕ) → rises_in w t r low (i ∷ l) ≡ true → (i ≤ used_at t) × (relation_in w t i ≡ r) × (low < label_in w t i)
+  unfolding rises_in
+  rises_head low i l e = step_says low i (and_left (chain_step_in w t r low i) (rises_in w t r (label_in w t i) l) e)
 
-  rises_tail : (low i : ℕ) (l : List ℕ) → rises t r low (i ∷ l) ≡ true → rises t r (label_at t i) l ≡ true
-  unfolding rises
-  rises_tail low i l e = and_right (chain_step t r low i) (rises t r (label_at t i) l) e
+  rises_tail : (low i : ℕ) (l : List ℕ) → rises_in w t r low (i ∷ l) ≡ true → rises_in w t r (label_in w t i) l ≡ true
+  unfolding rises_in
+  rises_tail low i l e = and_right (chain_step_in w t r low i) (rises_in w t r (label_in w t i) l) e
 
   -- the records of a rising chain are used ones
-  rises_within : (f low i : ℕ) → rises t r low (chain_from f t i) ≡ true → Within (used_at t) (chain_from f t i)
-  unfolding chain_from
+  rises_within : (f low i : ℕ) → rises_in w t r low (chain_from_in w f t i) ≡ true → Within (used_at t) (chain_from_in w f t i)
+  unfolding chain_from_in
   rises_within zero low i e = tt
   rises_within (suc f) low zero e = tt
   rises_within (suc f) low (suc i) e =
-      (omega arith, (rises_head low (suc i) (chain_from f t (next_at t (suc i))) e).0, rises_within f (label_at t (suc i)) (next_at t (suc i)) (rises_tail low (suc i) (chain_from f t (next_at t (suc i))) e))
+      let rest = chain_from_in w f t (next_in w t (suc i)) in
+      (omega arith, (rises_head low (suc i) rest e).0, rises_within f (label_in w t (suc i)) (next_in w t (suc i)) (rises_tail low (suc i) rest e))
 
   -- a member of a rising list: its relation, and its label above the start
-  rises_member : (l : List ℕ) (low k : ℕ) → rises t r low l ≡ true → elem k l ≡ true → (relation_at t k ≡ r) × (low < label_at t k)
+  rises_member : (l : List ℕ) (low k : ℕ) → rises_in w t r low l ≡ true → elem k l ≡ true → (relation_in w t k ≡ r) × (low < label_in w t k)
   unfolding elem some_of
   rises_member [] low k e h = clash h refl
-  rises_member (i ∷ l) low k e h = go (or_cases (eqb k i) (some_of (λ j. eqb k j) l) h) (rises_member l (label_at t i) k (rises_tail low i l e))
+  rises_member (i ∷ l) low k e h = go (or_cases (eqb k i) (some_of (λ j. eqb k j) l) h) (rises_member l (label_in w t i) k (rises_tail low i l e))
     where
-      go : (eqb k i ≡ true) ⊎ (some_of (λ j. eqb k j) l ≡ true) → (some_of (λ j. eqb k j) l ≡ true → (relation_at t k ≡ r) × (label_at t i < label_at t k))
-          → (relation_at t k ≡ r) × (low < label_at t k)
+      go : (eqb k i ≡ true) ⊎ (some_of (λ j. eqb k j) l ≡ true) → (some_of (λ j. eqb k j) l ≡ true → (relation_in w t k ≡ r) × (label_in w t i < label_in w t k))
+          → (relation_in w t k ≡ r) × (low < label_in w t k)
       go (inl q) f = let d = rises_head low i l e in let z = eqb-true k i q in (rw z d.1, rw z d.2)
       go (inr q) f = let d = rises_head low i l e in let m = f q in (m.0, omega arith)
 
@@ -132,16 +133,16 @@ module _ (t : List ℕ) (r : ℕ) where
       go true h f = clash refl h
       go false h f = rw (f h)
 
-  occ_once : (l : List ℕ) (low k : ℕ) → rises t r low l ≡ true → occ k l ≡ bit (elem k l)
+  occ_once : (l : List ℕ) (low k : ℕ) → rises_in w t r low l ≡ true → occ k l ≡ bit (elem k l)
   unfolding occ elem some_of bit
   occ_once [] low k e = refl
-  occ_once (i ∷ l) low k e = go (eqb k i) refl (some_of (λ j. eqb k j) l) refl (occ_once l (label_at t i) k (rises_tail low i l e))
+  occ_once (i ∷ l) low k e = go (eqb k i) refl (some_of (λ j. eqb k j) l) refl (occ_once l (label_in w t i) k (rises_tail low i l e))
     where
       go : (b : Bool) → eqb k i ≡ b → (d : Bool) → some_of (λ j. eqb k j) l ≡ d → occ k l ≡ bit (some_of (λ j. eqb k j) l)
           → bit b + occ k l ≡ bit (b || some_of (λ j. eqb k j) l)
       go true p true q h =
-          let m = rises_member l (label_at t i) k (rises_tail low i l e) q in
-          let z = ap (label_at t) (eqb-true k i p) in absurd (omega arith)
+          let m = rises_member l (label_in w t i) k (rises_tail low i l e) q in
+          let z = ap (label_in w t) (eqb-true k i p) in absurd (omega arith)
       go true p false q h = rw (occ_none l k q)
       go false p d q h = rw h (omega arith)
 
@@ -189,36 +190,36 @@ sum_all (suc n) p = go (p (suc n)) (each n p) (sum_all n p) (sum_bits n p)
     go false true e h = ne_eqb (s + 0) (suc n) (omega arith)
     go false false e h = ne_eqb (s + 0) (suc n) (omega arith)
 
-module _ (t : List ℕ) (up : chains_rise t ≡ true) where
-  rise : (r : ℕ) → 1 ≤ r → r ≤ most_relations → rises t r 0 (chain_of t r) ≡ true
-  unfolding chains_rise
-  rise r h g = each_at most_relations (λ q. rises t q 0 (chain_of t q)) r up h g
+module _ (w : ℕ) (t : List ℕ) (up : chains_rise_in w t ≡ true) where
+  rise : (r : ℕ) → 1 ≤ r → r ≤ most_relations → rises_in w t r 0 (chain_in w t r) ≡ true
+  unfolding chains_rise_in
+  rise r h g = each_at most_relations (λ q. rises_in w t q 0 (chain_in w t q)) r up h g
 
-  in_one : (k q q' : ℕ) → q ≤ most_relations → q' ≤ most_relations → 1 ≤ q → 1 ≤ q' → elem k (chain_of t q) ≡ true → elem k (chain_of t q') ≡ true → q ≡ q'
+  in_one : (k q q' : ℕ) → q ≤ most_relations → q' ≤ most_relations → 1 ≤ q → 1 ≤ q' → elem k (chain_in w t q) ≡ true → elem k (chain_in w t q') ≡ true → q ≡ q'
   in_one k q q' a b c d x y =
-      sym (rises_member t q (chain_of t q) 0 k (rise q c a) x).0 ∙ (rises_member t q' (chain_of t q') 0 k (rise q' d b) y).0
+      sym (rises_member w t q (chain_in w t q) 0 k (rise q c a) x).0 ∙ (rises_member w t q' (chain_in w t q') 0 k (rise q' d b) y).0
 
-  length_is : (r : ℕ) → 1 ≤ r → r ≤ most_relations → length (chain_of t r) ≡ sum_to (used_at t) (λ k. occ k (chain_of t r))
-  unfolding chain_of
-  length_is r h g = sym (sum_occ (chain_from (used_at t + 1) t (first_at t r)) (used_at t) (rises_within t r (used_at t + 1) 0 (first_at t r) (rise r h g)))
+  length_is : (r : ℕ) → 1 ≤ r → r ≤ most_relations → length (chain_in w t r) ≡ sum_to (used_at t) (λ k. occ k (chain_in w t r))
+  unfolding chain_in
+  length_is r h g = sym (sum_occ (chain_from_in w (used_at t + 1) t (first_at t r)) (used_at t) (rises_within w t r (used_at t + 1) 0 (first_at t r) (rise r h g)))
 
-  on_one : (k : ℕ) → sum_to most_relations (λ r. occ k (chain_of t r)) ≡ bit (on_chain t k)
-  unfolding on_chain elem
+  on_one : (k : ℕ) → sum_to most_relations (λ r. occ k (chain_in w t r)) ≡ bit (on_chain_in w t k)
+  unfolding on_chain_in elem
   on_one k =
-      sum_ext most_relations (λ r. occ k (chain_of t r)) (λ r. bit (elem k (chain_of t r))) (λ r a b. occ_once t r (chain_of t r) 0 k (rise r a b))
-      ∙ sum_any most_relations (λ r. elem k (chain_of t r)) (in_one k)
+      sum_ext most_relations (λ r. occ k (chain_in w t r)) (λ r. bit (elem k (chain_in w t r))) (λ r a b. occ_once w t r (chain_in w t r) 0 k (rise r a b))
+      ∙ sum_any most_relations (λ r. elem k (chain_in w t r)) (in_one k)
 
-  pub counted : eqb (sum_to most_relations (λ r. length (chain_of t r))) (used_at t) ≡ each (used_at t) (on_chain t)
+  pub counted : eqb (sum_to most_relations (λ r. length (chain_in w t r))) (used_at t) ≡ each (used_at t) (on_chain_in w t)
   counted =
       ap (λ (x : ℕ). eqb x (used_at t))
-      (sum_ext most_relations (λ r. length (chain_of t r)) (λ r. sum_to (used_at t) (λ k. occ k (chain_of t r))) length_is
-      ∙ sym (sum_swap (used_at t) most_relations (λ k r. occ k (chain_of t r)))
-      ∙ sum_ext (used_at t) (λ k. sum_to most_relations (λ r. occ k (chain_of t r))) (λ k. bit (on_chain t k)) (λ k a b. on_one k))
-      ∙ sum_all (used_at t) (on_chain t)
+      (sum_ext most_relations (λ r. length (chain_in w t r)) (λ r. sum_to (used_at t) (λ k. occ k (chain_in w t r))) length_is
+      ∙ sym (sum_swap (used_at t) most_relations (λ k r. occ k (chain_in w t r)))
+      ∙ sum_ext (used_at t) (λ k. sum_to most_relations (λ r. occ k (chain_in w t r))) (λ k. bit (on_chain_in w t k)) (λ k a b. on_one k))
+      ∙ sum_all (used_at t) (on_chain_in w t)
 
-risen : (t : List ℕ) → each most_relations (λ q. rises t q 0 (chain_of t q)) ≡ true → chains_rise t ≡ true
-unfolding chains_rise
-risen t e = e
+risen : (w : ℕ) (t : List ℕ) → each most_relations (λ q. rises_in w t q 0 (chain_in w t q)) ≡ true → chains_rise_in w t ≡ true
+unfolding chains_rise_in
+risen w t e = e
 
 -- the members of a list that all pass
 all_member : (p : ℕ → Bool) (l : List ℕ) (k : ℕ) → all_of p l ≡ true → elem k l ≡ true → p k ≡ true
@@ -237,48 +238,49 @@ all_within p n [] e w = refl
 all_within p n (i ∷ l) e w = and_both (p i) (all_of p l) (each_at n p i e w.0 w.1) (all_within p n l e w.2)
 
 -- a test of records, asked of those that the chains hold
-module _ (t : List ℕ) (p : ℕ → Bool) where
-  rising_all : (r : ℕ) → each (used_at t) p ≡ true → rises t r 0 (chain_of t r) ≡ true → all_of p (chain_of t r) ≡ true
-  unfolding chain_of
+module _ (w : ℕ) (t : List ℕ) (p : ℕ → Bool) where
+  rising_all : (r : ℕ) → each (used_at t) p ≡ true → rises_in w t r 0 (chain_in w t r) ≡ true → all_of p (chain_in w t r) ≡ true
+  unfolding chain_in
   rising_all r e h =
-      all_within p (used_at t) (chain_from (used_at t + 1) t (first_at t r)) e (rises_within t r (used_at t + 1) 0 (first_at t r) h)
+      all_within p (used_at t) (chain_from_in w (used_at t + 1) t (first_at t r)) e (rises_within w t r (used_at t + 1) 0 (first_at t r) h)
 
-  on_passes : (k : ℕ) → each most_relations (λ q. all_of p (chain_of t q)) ≡ true → on_chain t k ≡ true → p k ≡ true
-  unfolding on_chain elem
+  on_passes : (k : ℕ) → each most_relations (λ q. all_of p (chain_in w t q)) ≡ true → on_chain_in w t k ≡ true → p k ≡ true
+  unfolding on_chain_in elem
   on_passes k e h =
-      let m = any_at most_relations (λ r. elem k (chain_of t r)) h in
-      all_member p (chain_of t m.0) k (each_at most_relations (λ q. all_of p (chain_of t q)) m.0 e m.1 m.2) m.3
+      let m = any_at most_relations (λ r. elem k (chain_in w t r)) h in
+      all_member p (chain_in w t m.0) k (each_at most_relations (λ q. all_of p (chain_in w t q)) m.0 e m.1 m.2) m.3
 
-  all_pass : each most_relations (λ q. all_of p (chain_of t q)) ≡ true → each (used_at t) (on_chain t) ≡ true → each (used_at t) p ≡ true
-  all_pass e h = each_all (used_at t) p (λ k a b. on_passes k e (each_at (used_at t) (on_chain t) k h a b))
+  all_pass : each most_relations (λ q. all_of p (chain_in w t q)) ≡ true → each (used_at t) (on_chain_in w t) ≡ true → each (used_at t) p ≡ true
+  all_pass e h = each_all (used_at t) p (λ k a b. on_passes k e (each_at (used_at t) (on_chain_in w t) k h a b))
 
   -- the ways out of chains, and a turn
-  pub chains_broken : (r : ℕ) → 1 ≤ r → r ≤ most_relations → (rises t r 0 (chain_of t r) && all_of p (chain_of t r)) ≡ false
-      → false ≡ (each (used_at t) p && chains_rise t && each (used_at t) (on_chain t))
-  unfolding chains_rise
-  chains_broken r h g e = go (test (each (used_at t) p)) (test (rises t r 0 (chain_of t r)))
+  pub chains_broken : (r : ℕ) → 1 ≤ r → r ≤ most_relations → (rises_in w t r 0 (chain_in w t r) && all_of p (chain_in w t r)) ≡ false
+      → false ≡ (each (used_at t) p && chains_rise_in w t && each (used_at t) (on_chain_in w t))
+  unfolding chains_rise_in
+  chains_broken r h g e = go (test (each (used_at t) p)) (test (rises_in w t r 0 (chain_in w t r)))
     where
-      go : (each (used_at t) p ≡ true) ⊎ (each (used_at t) p ≡ false) → (rises t r 0 (chain_of t r) ≡ true) ⊎ (rises t r 0 (chain_of t r) ≡ false)
-          → false ≡ (each (used_at t) p && each most_relations (λ q. rises t q 0 (chain_of t q)) && each (used_at t) (on_chain t))
-      go (inl x) (inl y) = clash (and_both (rises t r 0 (chain_of t r)) (all_of p (chain_of t r)) y (rising_all r x y)) e
-      go (inl x) (inr y) = rw (x, ← each_fail most_relations (λ q. rises t q 0 (chain_of t q)) r h g y)
+      go : (each (used_at t) p ≡ true) ⊎ (each (used_at t) p ≡ false) → (rises_in w t r 0 (chain_in w t r) ≡ true) ⊎ (rises_in w t r 0 (chain_in w t r) ≡ false)
+          → false ≡ (each (used_at t) p && each most_relations (λ q. rises_in w t q 0 (chain_in w t q)) && each (used_at t) (on_chain_in w t))
+      go (inl x) (inl y) = clash (and_both (rises_in w t r 0 (chain_in w t r)) (all_of p (chain_in w t r)) y (rising_all r x y)) e
+      go (inl x) (inr y) = rw (x, ← each_fail most_relations (λ q. rises_in w t q 0 (chain_in w t q)) r h g y)
       go (inr x) y = rw x
 
-  pub chains_counted : (count used : ℕ) → each most_relations (λ q. rises t q 0 (chain_of t q) && all_of p (chain_of t q)) ≡ true
-      → count ≡ sum_to most_relations (λ q. length (chain_of t q)) → used ≡ used_at t
-      → eqb count used ≡ (each (used_at t) p && chains_rise t && each (used_at t) (on_chain t))
-  chains_counted count used e f g = rw (f, g, up) (counted t up ∙ go (test (each (used_at t) (on_chain t))))
+  pub chains_counted : (count used : ℕ) → each most_relations (λ q. rises_in w t q 0 (chain_in w t q) && all_of p (chain_in w t q)) ≡ true
+      → count ≡ sum_to most_relations (λ q. length (chain_in w t q)) → used ≡ used_at t
+      → eqb count used ≡ (each (used_at t) p && chains_rise_in w t && each (used_at t) (on_chain_in w t))
+  chains_counted count used e f g = rw (f, g, up) (counted w t up ∙ go (test (each (used_at t) (on_chain_in w t))))
     where
-      both : (each most_relations (λ q. rises t q 0 (chain_of t q)) && each most_relations (λ q. all_of p (chain_of t q))) ≡ true
-      both = sym (each_both most_relations (λ q. rises t q 0 (chain_of t q)) (λ q. all_of p (chain_of t q))) ∙ e
+      both : (each most_relations (λ q. rises_in w t q 0 (chain_in w t q)) && each most_relations (λ q. all_of p (chain_in w t q))) ≡ true
+      both = sym (each_both most_relations (λ q. rises_in w t q 0 (chain_in w t q)) (λ q. all_of p (chain_in w t q))) ∙ e
 
-      up : chains_rise t ≡ true
-      up = risen t (and_left (each most_relations (λ q. rises t q 0 (chain_of t q))) (each most_relations (λ q. all_of p (chain_of t q))) both)
+      up : chains_rise_in w t ≡ true
+      up = risen w t (and_left (each most_relations (λ q. rises_in w t q 0 (chain_in w t q))) (each most_relations (λ q. all_of p (chain_in w t q))) both)
 
-      go : (each (used_at t) (on_chain t) ≡ true) ⊎ (each (used_at t) (on_chain t) ≡ false) → each (used_at t) (on_chain t) ≡ (each (used_at t) p && true && each (used_at t) (on_chain t))
-      go (inl x) = rw (x, all_pass (and_right (each most_relations (λ q. rises t q 0 (chain_of t q))) (each most_relations (λ q. all_of p (chain_of t q))) both) x)
+      go : (each (used_at t) (on_chain_in w t) ≡ true) ⊎ (each (used_at t) (on_chain_in w t) ≡ false)
+          → each (used_at t) (on_chain_in w t) ≡ (each (used_at t) p && true && each (used_at t) (on_chain_in w t))
+      go (inl x) = rw (x, all_pass (and_right (each most_relations (λ q. rises_in w t q 0 (chain_in w t q))) (each most_relations (λ q. all_of p (chain_in w t q))) both) x)
       go (inr x) = rw (x, and-false)
 
-pub chains_more : (t : List ℕ) (r count n : ℕ) → n ≡ length (chain_of t (r + 1)) → count ≡ sum_to r (λ q. length (chain_of t q))
-    → count + n ≡ sum_to (r + 1) (λ q. length (chain_of t q))
-chains_more t r count n e f = rw (sum_more r (λ q. length (chain_of t q)), e, f)
+pub chains_more : (w : ℕ) (t : List ℕ) (r count n : ℕ) → n ≡ length (chain_in w t (r + 1)) → count ≡ sum_to r (λ q. length (chain_in w t q))
+    → count + n ≡ sum_to (r + 1) (λ q. length (chain_in w t q))
+chains_more w t r count n e f = rw (sum_more r (λ q. length (chain_in w t q)), e, f)

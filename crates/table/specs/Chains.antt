@@ -1,37 +1,40 @@
 -- A chain that was walked, to a label or to its end.
 -- Assumes nothing.
-use Rattle.std.specs.Prelude.{ℕ, zero, suc, ◌+◌, Bool, cond, ◌&&◌, not, List, leb, length}
-use Rattle.model.specs.Layout.{used_at, first_at, next_at, label_at}
+use Rattle.std.specs.Prelude.{ℕ, zero, suc, ◌+◌, Bool, cond, ◌&&◌, not, List, leb, length, Option, Some, None}
+use Rattle.model.specs.Layout.{used_at, first_at}
 use Rattle.model.specs.Lists.{all_of}
-use Rattle.model.specs.WellFormed.{record_rules, counters_rule, chain_of, rises}
-use Rattle.model.specs.Lookup.{read_rule}
+use Rattle.model.specs.Shapes.{next_in, label_in, record_rules_in, counters_rule_in, chain_in, chain_step_in, rises_in}
 use Rattle.table.specs.declared.Stop.{Stop}
 use Rattle.table.specs.declared.Stop.TheVariants as stop
-use Rattle.table.specs.declared.Walked.{Walked}
-use Rattle.table.specs.declared.Walked.TheVariants.{Broken, Whole}
 
--- the own words of record i, with its counters
-abbrev pub record_good : List ℕ → List ℕ → ℕ → Bool
-record_good s t i = record_rules s t i && counters_rule s t i
+-- of a schema and a table of w fields
+module _ (w : ℕ) where
+  -- the own words of record i, with its counters
+  abbrev pub record_good : List ℕ → List ℕ → ℕ → Bool
+  record_good s t i = record_rules_in w s t i && counters_rule_in w s t i
 
--- The chain of relation r: broken where it does not rise or has a record that is not good, else the number of its records.
-unfoldable pub walked_chain : List ℕ → List ℕ → ℕ → Walked
-walked_chain s t r = cond (rises t r 0 (chain_of t r) && all_of (record_good s t) (chain_of t r)) (Whole (length (chain_of t r))) Broken
+  -- A record read on the way, record i after the label low (read_rule of document 02, F-6).
+  unfoldable pub read_rule_in : List ℕ → List ℕ → ℕ → ℕ → ℕ → Bool
+  read_rule_in s t r low i = record_rules_in w s t i && counters_rule_in w s t i && chain_step_in w t r low i
 
--- Where a walk to label l ends: at most k records from index i on, after the label low and n records.
-unfoldable pub stop_from : ℕ → List ℕ → List ℕ → ℕ → ℕ → ℕ → ℕ → ℕ → Stop
-stop_from zero s t r l low n i = stop.End n
-stop_from (suc k) s t r l low n zero = stop.End n
-stop_from (suc k) s t r l low n (suc i) =
-    cond (not (read_rule s t r low (suc i))) stop.Broken
-    (cond (leb l (label_at t (suc i))) (stop.At (suc i)) (stop_from k s t r l (label_at t (suc i)) (n + 1) (next_at t (suc i))))
+  -- The chain of relation r: the number of its records, and none where it does not rise or has a record that is not good.
+  unfoldable pub walked_chain : List ℕ → List ℕ → ℕ → Option ℕ
+  walked_chain s t r = cond (rises_in w t r 0 (chain_in w t r) && all_of (record_good s t) (chain_in w t r)) (Some (length (chain_in w t r))) None
 
--- The same from the first record of relation r's chain.
-unfoldable pub walked_to : List ℕ → List ℕ → ℕ → ℕ → Stop
-walked_to s t r l = stop_from (used_at t + 1) s t r l 0 0 (first_at t r)
+  -- Where a walk to label l ends: at most k records from index i on, after the label low and n records.
+  unfoldable pub stop_from : ℕ → List ℕ → List ℕ → ℕ → ℕ → ℕ → ℕ → ℕ → Option Stop
+  stop_from zero s t r l low n i = Some (stop.End n)
+  stop_from (suc k) s t r l low n zero = Some (stop.End n)
+  stop_from (suc k) s t r l low n (suc i) =
+      cond (not (read_rule_in s t r low (suc i))) None
+      (cond (leb l (label_in w t (suc i))) (Some (stop.At (suc i))) (stop_from k s t r l (label_in w t (suc i)) (n + 1) (next_in w t (suc i))))
+
+  -- The same from the first record of relation r's chain.
+  unfoldable pub walked_to : List ℕ → List ℕ → ℕ → ℕ → Option Stop
+  walked_to s t r l = stop_from (used_at t + 1) s t r l 0 0 (first_at t r)
 
 -- What it says of the whole chain, where l is above every label.
-abbrev pub walked_of : Stop → Walked
-walked_of stop.Broken = Broken
-walked_of (stop.At i) = Broken
-walked_of (stop.End n) = Whole n
+abbrev pub walked_of : Option Stop → Option ℕ
+walked_of None = None
+walked_of (Some (stop.At i)) = None
+walked_of (Some (stop.End n)) = Some n

@@ -1,6 +1,6 @@
 -- The rules of a record in the forms in which the functions ask for them: a field with its counters, a row of words, and a row of a table.
 -- Assumes nothing.
-use Prim.Native.Nat.{ℕ, ◌+◌, ◌-◌, ◌≤◌, ◌<◌}
+use Prim.Native.Nat.{ℕ, ◌+◌, ◌*◌, ◌-◌, ◌≤◌, ◌<◌}
 use mathlib.Core.Path.{◌≡◌, refl, ap, sym, ◌∙◌}
 use mathlib.Core.Bool.{Bool, true, false, cond, ◌&&◌, ◌||◌, not, and-false}
 use mathlib.Core.List.{List}
@@ -12,13 +12,14 @@ use borrow.Author.Tests.{leb-true, lt-leb, le-leb, eqb-true, eq-eqb, ne_eqb}
 use Rattle.crdt.proofs.Tests.{test, clash, and_left, and_right}
 use Rattle.crdt.specs.Labels.{largest_counter, is_label, counter_of, replica_of}
 use Rattle.crdt.specs.Flags.{largest_flag}
-use Rattle.model.specs.Layout.{fields, head_words, block_words, record_words, block, base, word, relations, field_count, kind_at, clock_at, relation_at, label_at, flag_at, value_at, stamp_at}
+use Rattle.model.specs.Layout.{head_words, word, relations, clock_at}
+use Rattle.model.specs.Shapes.{block_in, base_in, count_in, kind_in, relation_in, label_in, flag_in, value_in, stamp_in, record_rules_in, counters_rule_in}
 use Rattle.model.specs.Lists.{each}
 use Rattle.model.specs.Schemas.{is_reference, abort_kinds}
-use Rattle.model.specs.WellFormed.{field_rule, record_rules, counters_rule}
-use Rattle.layout.proofs.Each.{each_ext, each_both}
+use Rattle.model.specs.WellFormed.{field_rule}
+use Rattle.layout.proofs.Each.{each_none, each_at, each_all, each_ext, each_both}
 use Rattle.layout.proofs.Words.{word_part}
-use Rattle.table_rules.specs.Rows.{label_under, counters_under, field_placed, fields_good, row_good}
+use Rattle.table_rules.specs.Rows.{label_under, counters_under, field_placed, fields_good_to, row_good}
 
 -- a label whose counter is at most a clock that is itself a counter
 pub label_under_lem : (clock x c r : ℕ) → clock ≤ largest_counter → c ≡ counter_of x → r ≡ replica_of x
@@ -116,77 +117,91 @@ module _ (clock kind value stamp : ℕ) where
       go (inr p) q = rw p
 
 -- a turn of fields_good: the words that it reads are those of field j + 1
-pub field_turn : (clock : ℕ) (b x : List ℕ) (j count kind value stamp : ℕ) (y : Bool) → count ≡ word b 0 → kind ≡ word b (j + 1) → value ≡ word x (head_words + j)
-    → stamp ≡ word x (head_words + fields + j) → y ≡ field_placed clock count (j + 1) kind value stamp
-    → y ≡ field_placed clock (word b 0) (j + 1) (word b (j + 1)) (word x (head_words - 1 + (j + 1))) (word x (head_words - 1 + fields + (j + 1)))
-field_turn clock b x j count kind value stamp y e f g h p =
+pub field_turn : (w clock : ℕ) (b x : List ℕ) (j count kind value stamp : ℕ) (y : Bool) → count ≡ word b 0 → kind ≡ word b (j + 1) → value ≡ word x (head_words + j)
+    → stamp ≡ word x (head_words + w + j) → y ≡ field_placed clock count (j + 1) kind value stamp
+    → y ≡ field_placed clock (word b 0) (j + 1) (word b (j + 1)) (word x (head_words - 1 + (j + 1))) (word x (head_words - 1 + w + (j + 1)))
+field_turn w clock b x j count kind value stamp y e f g h p =
     let v : head_words - 1 + (j + 1) ≡ head_words + j = omega arith in
-    let s : head_words - 1 + fields + (j + 1) ≡ head_words + fields + j = omega arith in
+    let s : head_words - 1 + w + (j + 1) ≡ head_words + w + j = omega arith in
     rw (v, s, ← e, ← f, ← g, ← h) p
 
+-- no field, and more fields than those of which one is not good
+module _ (w clock : ℕ) (b x : List ℕ) where
+  pub none_good : fields_good_to w 0 clock b x ≡ true
+  unfolding fields_good_to
+  none_good = sym (each_none _)
+
+  pub more_bad : (m n : ℕ) → m ≤ n → fields_good_to w m clock b x ≡ false → false ≡ fields_good_to w n clock b x
+  unfolding fields_good_to
+  more_bad m n h e = go (test (fields_good_to w n clock b x))
+    where
+      go : (fields_good_to w n clock b x ≡ true) ⊎ (fields_good_to w n clock b x ≡ false) → false ≡ fields_good_to w n clock b x
+      go (inl q) = clash (each_all m _ (λ k a l. each_at n _ k q a (omega arith))) e
+      go (inr q) = sym q
+
 -- the ways out of row_good
-module _ (s : List ℕ) (clock : ℕ) (x : List ℕ) where
-  pub row_low : word x 1 < 1 → false ≡ row_good s clock x
+module _ (w : ℕ) (s : List ℕ) (clock : ℕ) (x : List ℕ) where
+  pub row_low : word x 1 < 1 → false ≡ row_good w s clock x
   unfolding row_good
   row_low h = rw (lt-leb 1 (word x 1) h)
 
-  pub row_high : (R : ℕ) → R ≡ relations s → R < word x 1 → false ≡ row_good s clock x
+  pub row_high : (R : ℕ) → R ≡ relations s → R < word x 1 → false ≡ row_good w s clock x
   unfolding row_good
   row_high R e h = rw (← e, lt-leb (word x 1) R h, and-false)
 
-  pub row_named : label_under clock (word x 2) ≡ false → false ≡ row_good s clock x
+  pub row_named : label_under clock (word x 2) ≡ false → false ≡ row_good w s clock x
   unfolding row_good
   row_named h = rw (h, and-false)
 
-  pub row_flag : largest_flag < word x 3 → false ≡ row_good s clock x
+  pub row_flag : largest_flag < word x 3 → false ≡ row_good w s clock x
   unfolding row_good
   row_flag h = rw (lt-leb (word x 3) largest_flag h, and-false)
 
-  part_zero : field_count s (word x 1) ≡ word (take block_words (drop (block (word x 1)) s)) 0
-  unfolding field_count
-  part_zero = let z : block (word x 1) + 0 ≡ block (word x 1) = omega arith in sym (word_part s (block (word x 1)) block_words 0 (omega arith) ∙ ap (word s) z)
+  part_zero : count_in w s (word x 1) ≡ word (take (w + 4) (drop (block_in w (word x 1)) s)) 0
+  unfolding count_in
+  part_zero = let z : block_in w (word x 1) + 0 ≡ block_in w (word x 1) = omega arith in sym (word_part s (block_in w (word x 1)) (w + 4) 0 (omega arith) ∙ ap (word s) z)
 
-  part_kind : (j : ℕ) → j ≤ fields → kind_at s (word x 1) j ≡ word (take block_words (drop (block (word x 1)) s)) j
-  unfolding kind_at
-  part_kind j h = sym (word_part s (block (word x 1)) block_words j (omega arith))
+  part_kind : (j : ℕ) → j ≤ w → kind_in w s (word x 1) j ≡ word (take (w + 4) (drop (block_in w (word x 1)) s)) j
+  unfolding kind_in
+  part_kind j h = sym (word_part s (block_in w (word x 1)) (w + 4) j (omega arith))
 
   pub row_fields : (R : ℕ) (b : List ℕ) (y : Bool) → R ≡ relations s → 1 ≤ word x 1 → word x 1 ≤ R → label_under clock (word x 2) ≡ true → word x 3 ≤ largest_flag
-      → b ≡ take block_words (drop (block (word x 1)) s) → y ≡ fields_good clock b x → y ≡ row_good s clock x
-  unfolding row_good fields_good
+      → b ≡ take (w + 4) (drop (block_in w (word x 1)) s) → y ≡ fields_good_to w w clock b x → y ≡ row_good w s clock x
+  unfolding row_good fields_good_to
   row_fields R b y e h g l f p q =
       rw (← e, le-leb 1 (word x 1) h, le-leb (word x 1) R g, l, le-leb (word x 3) largest_flag f)
-      (q ∙ each_ext fields _ _ (λ j a m. rw (p, part_zero, part_kind j m)))
+      (q ∙ each_ext w _ _ (λ j a m. rw (p, part_zero, part_kind j m)))
 
 -- a row of a table is one of its records
-module _ (s t : List ℕ) (i : ℕ) where
+module _ (w : ℕ) (s t : List ℕ) (i : ℕ) where
   row : List ℕ
-  row = take record_words (drop (base i) t)
+  row = take (head_words + 2 * w) (drop (base_in w i) t)
 
-  row_at : (k : ℕ) → k < record_words → word row k ≡ word t (base i + k)
+  row_at : (k : ℕ) → k < head_words + 2 * w → word row k ≡ word t (base_in w i + k)
   unfolding row
-  row_at k h = word_part t (base i) record_words k h
+  row_at k h = word_part t (base_in w i) (head_words + 2 * w) k h
 
-  row_relation : word row 1 ≡ relation_at t i
-  unfolding relation_at
+  row_relation : word row 1 ≡ relation_in w t i
+  unfolding relation_in
   row_relation = row_at 1 (omega arith)
 
-  row_label : word row 2 ≡ label_at t i
-  unfolding label_at
+  row_label : word row 2 ≡ label_in w t i
+  unfolding label_in
   row_label = row_at 2 (omega arith)
 
-  row_flags : word row 3 ≡ flag_at t i
-  unfolding flag_at
+  row_flags : word row 3 ≡ flag_in w t i
+  unfolding flag_in
   row_flags = row_at 3 (omega arith)
 
-  row_value : (j : ℕ) → j ≤ fields → word row (head_words - 1 + j) ≡ value_at t i j
-  unfolding value_at
-  row_value j h = let z : base i + (head_words - 1 + j) ≡ base i + (head_words - 1) + j = omega arith in row_at (head_words - 1 + j) (omega arith) ∙ ap (word t) z
+  row_value : (j : ℕ) → j ≤ w → word row (head_words - 1 + j) ≡ value_in w t i j
+  unfolding value_in
+  row_value j h = let z : base_in w i + (head_words - 1 + j) ≡ base_in w i + (head_words - 1) + j = omega arith in row_at (head_words - 1 + j) (omega arith) ∙ ap (word t) z
 
-  row_stamp : (j : ℕ) → j ≤ fields → word row (head_words - 1 + fields + j) ≡ stamp_at t i j
-  unfolding stamp_at
+  row_stamp : (j : ℕ) → j ≤ w → word row (head_words - 1 + w + j) ≡ stamp_in w t i j
+  unfolding stamp_in
   row_stamp j h =
-      let z : base i + (head_words - 1 + fields + j) ≡ base i + (head_words - 1) + fields + j = omega arith in
-      row_at (head_words - 1 + fields + j) (omega arith) ∙ ap (word t) z
+      let z : base_in w i + (head_words - 1 + w + j) ≡ base_in w i + (head_words - 1) + w + j = omega arith in
+      row_at (head_words - 1 + w + j) (omega arith) ∙ ap (word t) z
 
   shuffle : (a l c f p q : Bool) → (a && (l && c) && f && (p && q)) ≡ ((a && l && f && p) && (c && q))
   shuffle false l c f p q = refl
@@ -197,21 +212,23 @@ module _ (s t : List ℕ) (i : ℕ) where
 
   placed : ℕ → Bool
   placed j =
-      cond (leb j (field_count s (relation_at t i))) (field_rule (kind_at s (relation_at t i) j) (value_at t i j) (stamp_at t i j)) (eqb (value_at t i j) 0 && eqb (stamp_at t i j) 0)
+      cond (leb j (count_in w s (relation_in w t i))) (field_rule (kind_in w s (relation_in w t i) j) (value_in w t i j) (stamp_in w t i j)) (eqb (value_in w t i j) 0 && eqb (stamp_in w t i j) 0)
 
   under : ℕ → Bool
-  under j = leb (counter_of (stamp_at t i j)) (clock_at t) && (not (is_reference (kind_at s (relation_at t i) j)) || leb (counter_of (value_at t i j)) (clock_at t))
+  under j = leb (counter_of (stamp_in w t i j)) (clock_at t) && (not (is_reference (kind_in w s (relation_in w t i) j)) || leb (counter_of (value_in w t i j)) (clock_at t))
 
-  row_record : row_good s (clock_at t) row ≡ (record_rules s t i && counters_rule s t i)
-  unfolding row_good record_rules counters_rule label_under field_placed counters_under placed under
+  row_record : row_good w s (clock_at t) row ≡ (record_rules_in w s t i && counters_rule_in w s t i)
+  unfolding row_good record_rules_in counters_rule_in label_under field_placed counters_under placed under
   row_record =
       rw (row_relation, row_label, row_flags)
-      (ap (λ (e : Bool). leb 1 (relation_at t i) && leb (relation_at t i) (relations s) && (is_label (label_at t i) && leb (counter_of (label_at t i)) (clock_at t)) && leb (flag_at t i) largest_flag && e)
-      (each_ext fields _ (λ j. placed j && under j) (λ j a m. rw (row_value j m, row_stamp j m)) ∙ each_both fields placed under)
-      ∙ shuffle (leb 1 (relation_at t i) && leb (relation_at t i) (relations s)) (is_label (label_at t i)) (leb (counter_of (label_at t i)) (clock_at t)) (leb (flag_at t i) largest_flag)
-      (each fields placed) (each fields under))
+      (ap (λ (e : Bool).
+      leb 1 (relation_in w t i) && leb (relation_in w t i) (relations s) && (is_label (label_in w t i) && leb (counter_of (label_in w t i)) (clock_at t))
+      && leb (flag_in w t i) largest_flag && e)
+      (each_ext w _ (λ j. placed j && under j) (λ j a m. rw (row_value j m, row_stamp j m)) ∙ each_both w placed under)
+      ∙ shuffle (leb 1 (relation_in w t i) && leb (relation_in w t i) (relations s)) (is_label (label_in w t i)) (leb (counter_of (label_in w t i)) (clock_at t)) (leb (flag_in w t i) largest_flag)
+      (each w placed) (each w under))
 
-  pub record_row : (clock : ℕ) (x : List ℕ) (y : Bool) → clock ≡ clock_at t → x ≡ take record_words (drop (base i) t) → y ≡ row_good s clock x
-      → y ≡ (record_rules s t i && counters_rule s t i)
+  pub record_row : (clock : ℕ) (x : List ℕ) (y : Bool) → clock ≡ clock_at t → x ≡ take (head_words + 2 * w) (drop (base_in w i) t) → y ≡ row_good w s clock x
+      → y ≡ (record_rules_in w s t i && counters_rule_in w s t i)
   unfolding row
   record_row clock x y e f p = (rw (e, f) at p) ∙ row_record

@@ -1,23 +1,30 @@
 -- The rules of a table's header, first indices and end, and the answers of the calls, in the forms in which the functions ask for them.
 -- Assumes nothing.
-use Prim.Native.Nat.{ℕ, zero, suc, ◌+◌, ◌-◌, ◌≤◌, ◌<◌}
+use Prim.Native.Nat.{ℕ, suc, ◌+◌, ◌-◌, ◌≤◌, ◌<◌}
 use mathlib.Core.Path.{◌≡◌, refl, sym, ◌∙◌}
-use mathlib.Core.Bool.{Bool, true, false, cond, ◌&&◌, ◌||◌, not, and-false, and-true, and_assoc}
+use mathlib.Core.Bool.{Bool, true, false, cond, ◌&&◌, ◌||◌, not, and-true, and_assoc}
 use mathlib.Core.List.{List, []}
 use native.Mathlib.Omega.{arith}
 use native.Mathlib.Numerals.{add-one}
 use lib.Dec.{leb, eqb}
-use lib.ListN.{length, get_or, set, take, drop, replicate, length-replicate, get_or-replicate, drop_of_length-le}
-use lib.Seq.{drop-cons, ext_get_or, get_or-set_same, get_or-set_other}
+use lib.ListN.{length, get_or, set, take, drop, replicate, drop_of_length-le}
+use lib.Seq.{drop-cons}
 use borrow.Author.Tests.{leb-true}
-use Rattle.crdt.proofs.Tests.{Tri, low, same, high, tri, clash, and_left, and_right}
+use Rattle.crdt.proofs.Tests.{clash, and_left, and_right}
 use Rattle.crdt.specs.Labels.{largest_counter, is_replica}
-use Rattle.model.specs.Layout.{fields, most_relations, first_words, zero_word, zero_words, head_words, replica_word, word, base, relations, capacity_of, replica_at, clock_at, used_at, first_at}
+use Rattle.model.specs.Layout.{fields, most_relations, first_words, zero_word, zero_words, head_words, replica_word, word, base, relations, replica_at, clock_at, used_at, first_at}
 use Rattle.model.specs.Lists.{each, all_of, lowest}
-use Rattle.model.specs.Schemas.{broken, block_rule, empty_block}
-use Rattle.model.specs.WellFormed.{header_rules, firsts_rule, empty_above, record_rules, counters_rule, chains_rise, on_chain, rest_zero, well_formed}
+use Rattle.model.specs.Schemas.{broken}
+use Rattle.model.specs.Shapes.{base_in, capacity_in, block_rule_in, empty_block_in, broken_in, header_rules_in, record_rules_in, counters_rule_in}
+use Rattle.model.specs.Shapes.{chains_rise_in, on_chain_in, rest_zero_in, well_formed_in}
+use Rattle.shape_laws.proofs.Spelled.{sized_in}
+use Rattle.model.specs.Layout.{most_records}
+use Rattle.model.specs.Shapes.{schema_length_in, table_length_in}
+use borrow.Author.Tests.{eqb-true}
+use Prim.Native.Nat.{◌*◌}
+use Rattle.model.specs.WellFormed.{firsts_rule, empty_above, well_formed}
 use Rattle.model.specs.Calls.{schema_length, table_length, bad_index, table_number, start_number, start_table, values_number, values_part, values_first}
-use Rattle.layout.proofs.Each.{each_more}
+use Rattle.layout.proofs.Each.{each_more, each_up}
 
 -- the zeros that end the header, one more
 pub zeros_more : (good : Bool) (t : List ℕ) (j x : ℕ) → x ≡ word t (first_words + most_relations + j)
@@ -25,95 +32,109 @@ pub zeros_more : (good : Bool) (t : List ℕ) (j x : ℕ) → x ≡ word t (firs
 zeros_more good t j x f g =
     let z : first_words + most_relations + j ≡ first_words + most_relations + (j + 1 - 1) = omega arith in each_more good (eqb x 0) j _ g (rw (f, z))
 
--- the header
-pub header_tested : (t : List ℕ) (replica clock used capacity x : ℕ) (zeros : Bool) → replica ≡ replica_at t → clock ≡ clock_at t → used ≡ used_at t → capacity ≡ capacity_of t
-    → x ≡ word t zero_word → zeros ≡ each zero_words (λ k. eqb (word t (first_words + most_relations + (k - 1))) 0)
-    → (is_replica replica && leb clock largest_counter && leb used capacity && eqb x 0 && zeros) ≡ header_rules t
-unfolding header_rules
-header_tested t replica clock used capacity x zeros a b c d e f = rw (a, b, c, d, e, f)
+-- the header of a table of w fields
+module _ (w : ℕ) (t : List ℕ) where
+  pub header_tested : (replica clock used capacity x : ℕ) (zeros : Bool) → replica ≡ replica_at t → clock ≡ clock_at t → used ≡ used_at t → capacity ≡ capacity_in w t
+      → x ≡ word t zero_word → zeros ≡ each zero_words (λ k. eqb (word t (first_words + most_relations + (k - 1))) 0)
+      → (is_replica replica && leb clock largest_counter && leb used capacity && eqb x 0 && zeros) ≡ header_rules_in w t
+  unfolding header_rules_in
+  header_tested replica clock used capacity x zeros a b c d e f = rw (a, b, c, d, e, f)
 
-pub record Header (t : List ℕ) : Type 0 where
-  pub clock : clock_at t ≤ largest_counter
-  pub used : used_at t ≤ capacity_of t
+  pub record Header : Type 0 where
+    pub clock : clock_at t ≤ largest_counter
+    pub used : used_at t ≤ capacity_in w t
 
-pub header_says : (t : List ℕ) → header_rules t ≡ true → Header t
-unfolding header_rules
-header_says t e =
-    let a = and_left (is_replica (replica_at t) && leb (clock_at t) largest_counter && leb (used_at t) (capacity_of t) && eqb (word t zero_word) 0) _ e in
-    let b = and_left (is_replica (replica_at t) && leb (clock_at t) largest_counter && leb (used_at t) (capacity_of t)) (eqb (word t zero_word) 0) a in
-    let c = and_left (is_replica (replica_at t) && leb (clock_at t) largest_counter) (leb (used_at t) (capacity_of t)) b in
-    record {
-      clock = leb-true (clock_at t) largest_counter (and_right (is_replica (replica_at t)) (leb (clock_at t) largest_counter) c);
-      used = leb-true (used_at t) (capacity_of t) (and_right (is_replica (replica_at t) && leb (clock_at t) largest_counter) (leb (used_at t) (capacity_of t)) b);
-    }
+  pub header_says : header_rules_in w t ≡ true → Header
+  unfolding header_rules_in
+  header_says e =
+      let a = and_left (is_replica (replica_at t) && leb (clock_at t) largest_counter && leb (used_at t) (capacity_in w t) && eqb (word t zero_word) 0) _ e in
+      let b = and_left (is_replica (replica_at t) && leb (clock_at t) largest_counter && leb (used_at t) (capacity_in w t)) (eqb (word t zero_word) 0) a in
+      let c = and_left (is_replica (replica_at t) && leb (clock_at t) largest_counter) (leb (used_at t) (capacity_in w t)) b in
+      record {
+        clock = leb-true (clock_at t) largest_counter (and_right (is_replica (replica_at t)) (leb (clock_at t) largest_counter) c);
+        used = leb-true (used_at t) (capacity_in w t) (and_right (is_replica (replica_at t) && leb (clock_at t) largest_counter) (leb (used_at t) (capacity_in w t)) b);
+      }
 
 -- first indices, one more
-pub firsts_more : (good : Bool) (t : List ℕ) (r x used : ℕ) → x ≡ first_at t (r + 1) → used ≡ used_at t → good ≡ each r (λ q. leb (first_at t q) (used_at t))
-    → (good && leb x used) ≡ each (r + 1) (λ q. leb (first_at t q) (used_at t))
-firsts_more good t r x used e f g = each_more good (leb x used) r _ g (rw (e, f))
+pub firsts_more : (good : Bool) (t : List ℕ) (r x used : ℕ) → 1 ≤ r → x ≡ first_at t r → used ≡ used_at t → good ≡ each (r - 1) (λ q. leb (first_at t q) (used_at t))
+    → (good && leb x used) ≡ each (r + 1 - 1) (λ q. leb (first_at t q) (used_at t))
+firsts_more good t r x used h e f g = each_up good (leb x used) r _ h g (rw (e, f))
 
-pub above_more : (good : Bool) (s t : List ℕ) (r x most : ℕ) → x ≡ first_at t (r + 1) → most ≡ relations s → good ≡ each r (λ q. leb q (relations s) || eqb (first_at t q) 0)
-    → (good && (leb (r + 1) most || eqb x 0)) ≡ each (r + 1) (λ q. leb q (relations s) || eqb (first_at t q) 0)
-above_more good s t r x most e f g = each_more good (leb (r + 1) most || eqb x 0) r _ g (rw (e, f))
+pub above_more : (good : Bool) (s t : List ℕ) (r x most : ℕ) → 1 ≤ r → x ≡ first_at t r → most ≡ relations s
+    → good ≡ each (r - 1) (λ q. leb q (relations s) || eqb (first_at t q) 0)
+    → (good && (leb r most || eqb x 0)) ≡ each (r + 1 - 1) (λ q. leb q (relations s) || eqb (first_at t q) 0)
+above_more good s t r x most h e f g = each_up good (leb r most || eqb x 0) r _ h g (rw (e, f))
 
 -- the words above the used records
-module _ (t : List ℕ) where
-  pub rest_first : (used k : ℕ) → used ≡ used_at t → k ≡ base (used + 1) → (true && all_of (λ x. eqb x 0) (drop k t)) ≡ rest_zero t
-  unfolding rest_zero
+module _ (w : ℕ) (t : List ℕ) where
+  pub rest_first : (used k : ℕ) → used ≡ used_at t → k ≡ base_in w (used + 1) → (true && all_of (λ x. eqb x 0) (drop k t)) ≡ rest_zero_in w t
+  unfolding rest_zero_in
   rest_first used k e f = rw (f, e)
 
-  pub rest_next : (good : Bool) (k : ℕ) {w : Bool} → k < length t → (good && all_of (λ x. eqb x 0) (drop k t)) ≡ w
-      → ((good && eqb (get_or t k 0) 0) && all_of (λ x. eqb x 0) (drop (k + 1) t)) ≡ w
+module _ (t : List ℕ) where
+  pub rest_next : (good : Bool) (k : ℕ) {y : Bool} → k < length t → (good && all_of (λ x. eqb x 0) (drop k t)) ≡ y
+      → ((good && eqb (get_or t k 0) 0) && all_of (λ x. eqb x 0) (drop (k + 1) t)) ≡ y
   unfolding all_of
   rest_next good k h e =
       rw (add-one k) (and_assoc good (eqb (get_or t k 0) 0) (all_of (λ x. eqb x 0) (drop (suc k) t)) ∙ (rw (drop-cons t k 0 h) at e))
 
-  pub rest_last : (good : Bool) (k : ℕ) {w : Bool} → length t ≤ k → (good && all_of (λ x. eqb x 0) (drop k t)) ≡ w → good ≡ w
+  pub rest_last : (good : Bool) (k : ℕ) {y : Bool} → length t ≤ k → (good && all_of (λ x. eqb x 0) (drop k t)) ≡ y → good ≡ y
   unfolding all_of
   rest_last good k h e = sym (and-true good) ∙ (rw (drop_of_length-le t h) at e)
 
--- a slice that is zero from its start on: one word more, and all
-pub zeros_next : (t : List ℕ) (k : ℕ) → k < length t → ((j : ℕ) → j < k → get_or t j 0 ≡ 0) → (j : ℕ) → j < k + 1 → get_or (set t k 0) j 0 ≡ 0
-zeros_next t k h z j g = go (tri j k)
-  where
-    go : Tri j k → get_or (set t k 0) j 0 ≡ 0
-    go (low p) = get_or-set_other t k j 0 0 (omega arith) ∙ z j p
-    go (same p) = rw p (get_or-set_same t k 0 0 h)
-    go (high p) = absurd (omega arith)
-
-pub zeros_all : (t : List ℕ) (n : ℕ) → length t ≡ n → ((j : ℕ) → j < length t → get_or t j 0 ≡ 0) → t ≡ replicate n 0
-zeros_all t n e z = ext_get_or 0 t (replicate n 0) (e ∙ sym (length-replicate n 0)) (λ j h. z j h ∙ sym (get_or-replicate n j 0 0 (rw e at h)))
-
 -- a schema that isn't broken
-pub sound_relations : (s : List ℕ) → broken s ≡ false → relations s ≤ most_relations
-unfolding broken
-sound_relations s e =
+pub sound_in : (w : ℕ) (s : List ℕ) → broken_in w s ≡ false → relations s ≤ most_relations
+unfolding broken_in
+sound_in w s e =
     let b = leb 1 (relations s) && leb (relations s) most_relations in
-    let rest = each most_relations (λ r. cond (leb r (relations s)) (block_rule s r) (empty_block s r)) in
+    let rest = each most_relations (λ r. cond (leb r (relations s)) (block_rule_in w s r) (empty_block_in w s r)) in
     leb-true (relations s) most_relations (and_right (leb 1 (relations s)) (leb (relations s) most_relations) (and_left b rest (kept (b && rest) e)))
   where
     kept : (x : Bool) → not x ≡ false → x ≡ true
     kept true h = refl
     kept false h = clash refl h
 
--- the ways out of well_formed
-module _ (s t : List ℕ) where
-  pub formed_header : (x : Bool) → x ≡ header_rules t → x ≡ false → false ≡ well_formed s t
-  unfolding well_formed
+-- what bounds the records that are read, where the header's words lie in their ranges
+pub record Ready (w : ℕ) (s t : List ℕ) : Type 0 where
+  pub long : length s ≡ 1 + most_relations * (w + 4)
+  pub related : relations s ≤ most_relations
+  pub clocked : clock_at t ≤ largest_counter
+  pub stored : used_at t ≤ capacity_in w t
+  pub few : used_at t ≤ most_records
+
+pub ready : (w : ℕ) (s t : List ℕ) → schema_length_in w s ≡ true → table_length_in w t ≡ true → broken_in w s ≡ false → header_rules_in w t ≡ true → Ready w s t
+unfolding schema_length_in
+ready w s t a b c d =
+    let h = header_says w t d in
+    let z = sized_in w t b in
+    record {
+      long = eqb-true (length s) (1 + most_relations * (w + 4)) a;
+      related = sound_in w s c;
+      clocked = h.clock;
+      stored = h.used;
+      few = omega (arith, h.used, z.most);
+    }
+
+-- the ways out of well_formed_in
+module _ (w : ℕ) (s t : List ℕ) where
+  pub formed_header : (x : Bool) → x ≡ header_rules_in w t → x ≡ false → false ≡ well_formed_in w s t
+  unfolding well_formed_in
   formed_header x e f = rw (← e, f)
 
-  pub formed_tested : (h f a c z : Bool) → h ≡ header_rules t → h ≡ true → f ≡ firsts_rule t → a ≡ empty_above s t
-      → c ≡ (each (used_at t) (λ i. record_rules s t i && counters_rule s t i) && chains_rise t && each (used_at t) (on_chain t)) → z ≡ rest_zero t
-      → (f && a && c && z) ≡ well_formed s t
-  unfolding well_formed
+  pub formed_tested : (h f a c z : Bool) → h ≡ header_rules_in w t → h ≡ true → f ≡ firsts_rule t → a ≡ empty_above s t
+      → c ≡ (each (used_at t) (λ i. record_rules_in w s t i && counters_rule_in w s t i) && chains_rise_in w t && each (used_at t) (on_chain_in w t))
+      → z ≡ rest_zero_in w t → (f && a && c && z) ≡ well_formed_in w s t
+  unfolding well_formed_in
   formed_tested h f a c z e₁ e₂ e₃ e₄ e₅ e₆ =
-      rw (← e₁, e₂, e₅, ← e₃, ← e₄, ← e₆) (regroup f a (each (used_at t) (λ i. record_rules s t i && counters_rule s t i)) (chains_rise t) (each (used_at t) (on_chain t)) z)
+      rw (← e₁, e₂, e₅, ← e₃, ← e₄, ← e₆)
+      (regroup f a (each (used_at t) (λ i. record_rules_in w s t i && counters_rule_in w s t i)) (chains_rise_in w t) (each (used_at t) (on_chain_in w t)) z)
     where
       regroup : (f a r c o z : Bool) → (f && a && (r && c && o) && z) ≡ (true && f && a && r && c && o && z)
       regroup true true r c o z = refl
       regroup true false r c o z = refl
       regroup false a r c o z = refl
 
+module _ (s t : List ℕ) where
   -- the answers of the table check
   pub table_length_lem : (x : Bool) → x ≡ (schema_length s && table_length t) → x ≡ false → 1 ≡ table_number s t
   unfolding table_number lowest

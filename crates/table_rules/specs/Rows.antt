@@ -3,7 +3,8 @@
 use Rattle.std.specs.Prelude.{ℕ, ◌+◌, ◌-◌, Bool, cond, ◌||◌, ◌&&◌, not, List, eqb, leb}
 use Rattle.crdt.specs.Labels.{is_label, counter_of}
 use Rattle.crdt.specs.Flags.{largest_flag}
-use Rattle.model.specs.Layout.{fields, head_words, word, relations, field_count, kind_at}
+use Rattle.model.specs.Layout.{head_words, word, relations}
+use Rattle.model.specs.Shapes.{count_in, kind_in}
 use Rattle.model.specs.Lists.{each}
 use Rattle.model.specs.Schemas.{is_reference}
 use Rattle.model.specs.WellFormed.{field_rule}
@@ -21,18 +22,13 @@ unfoldable pub field_placed : ℕ → ℕ → ℕ → ℕ → ℕ → ℕ → Bo
 field_placed clock count j kind value stamp =
     cond (leb j count) (field_rule kind value stamp) (eqb value 0 && eqb stamp 0) && counters_under clock kind value stamp
 
--- fields 1 to n of row x under block b
-unfoldable pub fields_good_to : ℕ → ℕ → List ℕ → List ℕ → Bool
-fields_good_to n clock b x =
-    each n (λ j. field_placed clock (word b 0) j (word b j) (word x (head_words - 1 + j)) (word x (head_words - 1 + fields + j)))
+-- fields 1 to n of row x, which has w, under block b
+unfoldable pub fields_good_to : ℕ → ℕ → ℕ → List ℕ → List ℕ → Bool
+fields_good_to w n clock b x =
+    each n (λ j. field_placed clock (word b 0) j (word b j) (word x (head_words - 1 + j)) (word x (head_words - 1 + w + j)))
 
--- the fields of row x under block b
-unfoldable pub fields_good : ℕ → List ℕ → List ℕ → Bool
-fields_good clock b x =
-    each fields (λ j. field_placed clock (word b 0) j (word b j) (word x (head_words - 1 + j)) (word x (head_words - 1 + fields + j)))
-
--- row x under schema s
-unfoldable pub row_good : List ℕ → ℕ → List ℕ → Bool
-row_good s clock x =
+-- row x of w fields under schema s
+unfoldable pub row_good : ℕ → List ℕ → ℕ → List ℕ → Bool
+row_good w s clock x =
     leb 1 (word x 1) && leb (word x 1) (relations s) && label_under clock (word x 2) && leb (word x 3) largest_flag
-    && each fields (λ j. field_placed clock (field_count s (word x 1)) j (kind_at s (word x 1) j) (word x (head_words - 1 + j)) (word x (head_words - 1 + fields + j)))
+    && each w (λ j. field_placed clock (count_in w s (word x 1)) j (kind_in w s (word x 1) j) (word x (head_words - 1 + j)) (word x (head_words - 1 + w + j)))

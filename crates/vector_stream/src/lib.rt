@@ -1,10 +1,11 @@
 // What the vector programs share: the stream's numbers and slices, the rows of its calls, what an item came to, the counts and
-// what is printed. Each program runs the items of its own stream. docs/VECTORS.md tells the format and how a program is added.
+// what is printed, and the run over all items. Each program has the calls of its own stream. docs/VECTORS.md tells the format and
+// how a program is added.
 #![tactic(auto)]
 
-pub mod input;
 pub mod items;
-pub mod report;
-pub mod rows;
+mod report;
+mod rows;
+pub mod run;
 pub mod stream;
-pub mod tally;
+mod tally;

@@ -1,70 +1,67 @@
-// The counts: for each category, for each answer of each call, and of the mismatches.
-ghost use Rattle.std.specs.Prelude.{◌≡◌, false, set, OnErr};
-ghost use Rattle.vector_stream.specs.Stream.{items_at, words_at, digest_at};
+// The counts: for each category, for each answer of each call, of the items and of the mismatches.
+ghost use Rattle.std.specs.Prelude.{◌≡◌, false, OnErr};
 
-use crate::stream::{get, put};
+use crate::stream::Taken;
 use std::io;
 
-// Categories begin at 0, and the answers of calls, 32 to a call, at ANSWERS.
-pub const ANSWERS: u64 = 256;
+const CATEGORIES: usize = 256;
 
-pub const CALLS: u64 = 256;
+const CALLS: usize = 256;
 
-pub const ANSWERS_OF_CALL: u64 = 32;
+pub(crate) const ANSWERS_OF_CALL: usize = 32;
 
-pub const ITEMS: usize = (ANSWERS + CALLS * ANSWERS_OF_CALL) as usize;
+const PRINTED: u64 = 10;
 
-pub const WORDS: usize = ITEMS + 1;
-
-pub const DIGEST: usize = WORDS + 1;
-
-pub const MISMATCHES: usize = DIGEST + 1;
-
-// How many counts there are.
-pub const COUNTS: usize = MISMATCHES + 1;
-
-pub const PRINTED: u64 = 10;
-
-// The number of the items, of the words taken, and their digest.
-pub fn put_sums(counts: &mut [u64], items: u64, words: u64, digest: u64)
-    ensures { counts.new ≡ set (set (set counts.old items_at items) words_at words) digest_at digest }
-{
-    put(counts, ITEMS, items);
-    put(counts, WORDS, words);
-    put(counts, DIGEST, digest);
+#[derive(Drop)]
+pub struct Tally {
+    pub categories: [u64; CATEGORIES],
+    // The answers of calls, 32 to a call.
+    pub answers: [[u64; ANSWERS_OF_CALL]; CALLS],
+    pub items: usize,
+    pub taken: Taken,
+    pub mismatches: u64,
 }
 
-fn add(counts: &mut [u64], k: usize) {
-    let x = get(counts, k);
-    put(counts, k, x % 4294967296 + 1);
-}
-
-// Where the count of an answer of a call stands.
-pub(crate) fn place(call: u64, answer: u64) -> usize {
-    (ANSWERS + call % CALLS * ANSWERS_OF_CALL + answer % ANSWERS_OF_CALL) as usize
-}
-
-pub(crate) fn count_item(counts: &mut [u64], category: u64, call: u64, answer: u64) {
-    add(counts, (category % ANSWERS) as usize);
-    add(counts, place(call, answer));
-}
-
-// Counts a mismatch, and prints the number of the item while there are few.
-pub(crate) fn count_match<P: Print>(
-    rt: &P,
-    counts: &mut [u64],
-    i: usize,
-    good: bool,
-) -> io::Result<()>
-    ensures { OnErr result (good ≡ false) }
-{
-    if good {
-        return Ok(());
+impl Tally {
+    pub(crate) fn new() -> Tally {
+        Tally {
+            categories: [0; CATEGORIES],
+            answers: [[0; ANSWERS_OF_CALL]; CALLS],
+            items: 0,
+            taken: Taken {
+                words: 0,
+                digest: 0,
+            },
+            mismatches: 0,
+        }
     }
-    add(counts, MISMATCHES);
-    if PRINTED < get(counts, MISMATCHES) {
-        return Ok(());
+
+    // Counts an item of a category and the answer of its call; a mismatch too, whose item's number is printed while there are few.
+    // It can fail where it prints.
+    pub(crate) fn count<P: Print>(
+        &mut self,
+        rt: &P,
+        category: u8,
+        call: u8,
+        answer: u64,
+        good: bool,
+    ) -> io::Result<()>
+        ensures { OnErr result (good ≡ false) }
+    {
+        add(&mut self.categories[usize::from(category)]);
+        add(&mut self.answers[usize::from(call)][(answer % ANSWERS_OF_CALL as u64) as usize]);
+        self.items = self.items.saturating_add(1);
+        if good {
+            return Ok(());
+        }
+        add(&mut self.mismatches);
+        if PRINTED < self.mismatches {
+            return Ok(());
+        }
+        println!(rt; "mismatch {}", self.items)
     }
-    let item = i as u64 % 4294967296 + 1;
-    println!(rt; "mismatch {item}")
+}
+
+fn add(count: &mut u64) {
+    *count = count.saturating_add(1);
 }

@@ -1,204 +1,114 @@
-// One function for each call: it takes the inputs from the stream, makes the call and compares. The number of a kind tells which
-// of the six kinds' calls is made; a number that is no kind is a mismatch.
-use answers::{DeletionAnswer, InsertionAnswer, UpdateAnswer};
-use vector_stream::items::{Back, Inputs};
-use vector_stream::stream::{Cursor, get, number};
-use vector_stream::{items, stream};
+// One function for each call: it takes the numbers of an item, makes the call on its slices and compares. The number of a kind
+// tells which of the six kinds' calls is made; a number that is no kind is a mismatch.
+use answers::Refusal;
+use vector_stream::items::{Back, Item, Lent, Slices};
+use vector_stream::run::Calls;
 
-const MOST_KINDS: u64 = 6;
+const KINDS: u64 = 6;
 
-fn no_kind(kind: u64) -> bool {
-    (kind == 0) | (MOST_KINDS < kind)
-}
+#[derive(Drop)]
+pub struct Book;
 
-fn enter(s: &[u8], taken: Inputs, own: &mut [u64], third: &mut [u64], values: &[u64]) -> Back {
-    let kind = number(s, taken.at);
-    if no_kind(kind.value) {
-        return items::unknown(taken);
+impl Calls for Book {
+    fn takes_slices(&self, _call: u8) -> bool {
+        true
     }
-    let got = enter_in(s, taken, own, third, values, kind.value);
-    let back = items::answered(s, kind.at, taken.words, taken.sum, got.number());
-    with_edit(
-        s,
-        items::with_result(s, back, got.label()),
-        taken,
-        own,
-        third,
-    )
-}
 
-fn enter_in(
-    s: &[u8],
-    taken: Inputs,
-    own: &mut [u64],
-    third: &mut [u64],
-    values: &[u64],
-    kind: u64,
-) -> InsertionAnswer {
-    let m = stream::words_of(s, taken.own, own);
-    let k = stream::words_of(s, taken.third, third);
-    enter_kind(&mut own[0..m], &mut third[0..k], kind, values)
-}
-
-fn enter_kind(own: &mut [u64], delta: &mut [u64], kind: u64, values: &[u64]) -> InsertionAnswer {
-    let a = get(values, 0);
-    let b = get(values, 1);
-    let c = get(values, 2);
-    let d = get(values, 3);
-    let e = get(values, 4);
-    match kind {
-        1 => book::enter_group(own, delta, a),
-        2 => book::enter_cow(own, delta, a, b, c),
-        3 => book::enter_robot(own, delta, a),
-        4 => book::enter_milking(own, delta, a, b, c, d, e),
-        5 => book::enter_cleaning(own, delta, a, b, c),
-        _ => book::enter_treatment(own, delta, a, b, c),
+    fn run<'a>(&mut self, call: u8, item: Item<'a>, lent: &mut Slices<'_>) -> Back<'a> {
+        match call {
+            27 => enter(item, &mut lent.own, &mut lent.third, &lent.values),
+            28 => change(item, &mut lent.own, &mut lent.third),
+            29 => strike(item, &mut lent.own, &mut lent.third),
+            30 => find(item, lent.own.words()),
+            _ => item.unknown(),
+        }
     }
 }
 
-fn change(s: &[u8], taken: Inputs, own: &mut [u64], third: &mut [u64]) -> Back {
-    let kind = number(s, taken.at);
-    if no_kind(kind.value) {
-        return items::unknown(taken);
-    }
-    let index = number(s, kind.at);
-    let field = number(s, index.at);
-    let value = number(s, field.at);
-    let got = change_in(
-        s,
-        taken,
-        own,
-        third,
-        kind.value,
-        index.value,
-        field.value,
-        value.value,
-    );
-    let back = items::answered(s, value.at, taken.words, taken.sum, got.number());
-    with_edit(s, back, taken, own, third)
+// The next number as a kind's.
+fn kind_of(item: &mut Item<'_>) -> Option<usize> {
+    let kind = item.number();
+    ((1 <= kind) & (kind <= KINDS)).then_some(kind as usize)
 }
 
-fn change_in(
-    s: &[u8],
-    taken: Inputs,
-    own: &mut [u64],
-    third: &mut [u64],
-    kind: u64,
-    index: u64,
-    field: u64,
-    value: u64,
-) -> UpdateAnswer {
-    let m = stream::words_of(s, taken.own, own);
-    let k = stream::words_of(s, taken.third, third);
-    change_kind(
-        &mut own[0..m],
-        &mut third[0..k],
-        kind,
-        index as usize,
-        field as usize,
-        value,
-    )
+fn enter<'a>(
+    from: Item<'a>,
+    own: &mut Lent<'_>,
+    delta: &mut Lent<'_>,
+    values: &Lent<'_>,
+) -> Back<'a> {
+    let mut item = from;
+    let Some(kind) = kind_of(&mut item) else {
+        return from.unknown();
+    };
+    let got = enter_kind(kind, own.words_mut(), delta.words_mut(), values.buffer);
+    item.answered(answers::number(got))
+        .result(got.unwrap_or(0))
+        .own(own)
+        .third(delta)
 }
 
-fn change_kind(
+fn enter_kind(
+    kind: usize,
     own: &mut [u64],
     delta: &mut [u64],
-    kind: u64,
-    index: usize,
-    field: usize,
-    value: u64,
-) -> UpdateAnswer {
-    match kind {
-        1 => book::change_group(own, delta, index, field, value),
-        2 => book::change_cow(own, delta, index, field, value),
-        3 => book::change_robot(own, delta, index, field, value),
-        4 => book::change_milking(own, delta, index, field, value),
-        5 => book::change_cleaning(own, delta, index, field, value),
-        _ => book::change_treatment(own, delta, index, field, value),
-    }
-}
-
-fn strike(s: &[u8], taken: Inputs, own: &mut [u64], third: &mut [u64]) -> Back {
-    let kind = number(s, taken.at);
-    if no_kind(kind.value) {
-        return items::unknown(taken);
-    }
-    let index = number(s, kind.at);
-    let got = strike_in(s, taken, own, third, kind.value, index.value);
-    let back = items::answered(s, index.at, taken.words, taken.sum, got.number());
-    with_edit(s, back, taken, own, third)
-}
-
-fn strike_in(
-    s: &[u8],
-    taken: Inputs,
-    own: &mut [u64],
-    third: &mut [u64],
-    kind: u64,
-    index: u64,
-) -> DeletionAnswer {
-    let m = stream::words_of(s, taken.own, own);
-    let k = stream::words_of(s, taken.third, third);
-    strike_kind(&mut own[0..m], &mut third[0..k], kind, index as usize)
-}
-
-fn strike_kind(own: &mut [u64], delta: &mut [u64], kind: u64, index: usize) -> DeletionAnswer {
-    match kind {
-        1 => book::strike_group(own, delta, index),
-        2 => book::strike_cow(own, delta, index),
-        3 => book::strike_robot(own, delta, index),
-        4 => book::strike_milking(own, delta, index),
-        5 => book::strike_cleaning(own, delta, index),
-        _ => book::strike_treatment(own, delta, index),
-    }
-}
-
-fn find(s: &[u8], taken: Inputs, own: &[u64]) -> Back {
-    let m = stream::words_of(s, taken.own, own);
-    let label = number(s, taken.at);
-    let got = book_find::find_milking(&own[0..m], label.value);
-    let back = items::answered(s, label.at, taken.words, taken.sum, got.number());
-    items::with_result(s, back, got.index() as u64)
-}
-
-// The told exits of the table and of the delta.
-fn with_edit(s: &[u8], back: Back, taken: Inputs, own: &[u64], third: &[u64]) -> Back {
-    items::with_exit(
-        s,
-        items::with_exit(s, back, taken.own, own),
-        taken.third,
-        third,
-    )
-}
-
-// Takes the slices of an item, and runs it.
-pub fn run(
-    s: &[u8],
-    c: Cursor,
-    call: u64,
-    rows: &[u64],
-    schema: &mut [u64],
-    own: &mut [u64],
-    third: &mut [u64],
-    values: &mut [u64],
-) -> Back {
-    let taken = items::load_inputs(s, c, call, rows, schema, own, third, values);
-    run_loaded(s, call, taken, own, third, values)
-}
-
-fn run_loaded(
-    s: &[u8],
-    call: u64,
-    taken: Inputs,
-    own: &mut [u64],
-    third: &mut [u64],
     values: &[u64],
-) -> Back {
-    match call {
-        27 => enter(s, taken, own, third, values),
-        28 => change(s, taken, own, third),
-        29 => strike(s, taken, own, third),
-        30 => find(s, taken, own),
-        _ => items::unknown(taken),
+) -> Result<u64, Refusal> {
+    let value = |k: usize| values.get(k).copied().unwrap_or(0);
+    let a = value(0);
+    let b = value(1);
+    let c = value(2);
+    match kind {
+        book_schema::GROUP => book_entries::enter_group(own, delta, a),
+        book_schema::COW => book_entries::enter_cow(own, delta, a, b, c),
+        book_schema::ROBOT => book_entries::enter_robot(own, delta, a),
+        book_schema::MILKING => book_entries::enter_milking(
+            own,
+            delta,
+            a,
+            b,
+            c,
+            value(3),
+            value(4),
+        ),
+        book_schema::CLEANING => book_entries::enter_cleaning(own, delta, a, b, c),
+        _ => book_entries::enter_treatment(own, delta, a, b, c),
     }
+}
+
+fn change<'a>(from: Item<'a>, own: &mut Lent<'_>, delta: &mut Lent<'_>) -> Back<'a> {
+    let mut item = from;
+    let Some(kind) = kind_of(&mut item) else {
+        return from.unknown();
+    };
+    let index = item.number() as usize;
+    let field = item.number() as usize;
+    let value = item.number();
+    let got = book_edits::change(
+        own.words_mut(),
+        delta.words_mut(),
+        kind,
+        index,
+        field,
+        value,
+    );
+    item.answered(answers::number(got)).own(own).third(delta)
+}
+
+fn strike<'a>(from: Item<'a>, own: &mut Lent<'_>, delta: &mut Lent<'_>) -> Back<'a> {
+    let mut item = from;
+    let Some(kind) = kind_of(&mut item) else {
+        return from.unknown();
+    };
+    let index = item.number() as usize;
+    let got = book_edits::strike(own.words_mut(), delta.words_mut(), kind, index);
+    item.answered(answers::number(got)).own(own).third(delta)
+}
+
+fn find<'a>(from: Item<'a>, own: &[u64]) -> Back<'a> {
+    let mut item = from;
+    let label = item.number();
+    let got = book_find::find_milking(own, label);
+    item.answered(answers::number(got))
+        .result(answers::index(got) as u64)
 }

@@ -1,210 +1,186 @@
-// One function for each call over a fleet: it takes the numbers from the stream, makes the call and compares.
-use crate::{fleet, slots};
-use vector_stream::items::{Back, Inputs};
-use vector_stream::stream::{Cursor, number};
-use vector_stream::{items, stream};
+// One function for each call over a fleet: it takes the numbers of an item, makes the call on the fleet's slots and compares.
+ghost use Rattle.std.specs.Prelude.{◌<◌};
 
-// The told digest of the fleet against its own.
-fn digested(s: &[u8], back: Back, fleet: &[u64], delta: &[u64]) -> Back {
-    items::with_result(s, back, slots::digest_of(fleet, delta))
-}
+use crate::slots::{Fleet, Held, MOST_MARKS, SLOTS};
+use list_walk::Place;
+use vector_stream::items::{Back, Item, Slices};
+use vector_stream::run::Calls;
 
-// The capacities of the five tables; where the next number begins.
-fn begin_slots(s: &[u8], at: usize, fleet: &mut [u64]) -> usize {
-    let mut place = number(s, at).at;
-    for slot in 0..5 {
-        let capacity = number(s, place);
-        slots::begin_slot(fleet, slot, capacity.value);
-        place = capacity.at;
+impl Calls for Fleet {
+    fn takes_slices(&self, _call: u8) -> bool {
+        true
     }
-    place
-}
 
-fn begin(s: &[u8], taken: Inputs, fleet: &mut [u64], delta: &mut [u64], schema: &[u64]) -> Back {
-    slots::begin(fleet, schema, stream::words_of(s, taken.schema, schema));
-    slots::clear(delta);
-    let at = begin_slots(s, taken.at, fleet);
-    let back = items::answered(s, at, taken.words, taken.sum, 0);
-    digested(s, back, fleet, delta)
-}
-
-fn start(s: &[u8], taken: Inputs, fleet: &mut [u64], delta: &[u64], own: &mut [u64]) -> Back {
-    let slot = number(s, taken.at);
-    let replica = number(s, slot.at);
-    let got = fleet::start(fleet, own, slot.value, replica.value);
-    let back = items::answered(s, replica.at, taken.words, taken.sum, got);
-    digested(s, back, fleet, delta)
-}
-
-fn copy(s: &[u8], taken: Inputs, fleet: &mut [u64], delta: &[u64], own: &mut [u64]) -> Back {
-    let slot = number(s, taken.at);
-    let to = number(s, slot.at);
-    fleet::copy_slot(fleet, own, slot.value, to.value);
-    let back = items::answered(s, to.at, taken.words, taken.sum, 0);
-    digested(s, back, fleet, delta)
-}
-
-fn copy_delta(s: &[u8], taken: Inputs, fleet: &mut [u64], delta: &[u64]) -> Back {
-    let slot = number(s, taken.at);
-    slots::store(fleet, slot.value, delta, delta.len());
-    let back = items::answered(s, slot.at, taken.words, taken.sum, 0);
-    digested(s, back, fleet, delta)
-}
-
-fn spoil(s: &[u8], taken: Inputs, fleet: &mut [u64], delta: &[u64]) -> Back {
-    let slot = number(s, taken.at);
-    let index = number(s, slot.at);
-    let word = number(s, index.at);
-    slots::spoil(fleet, slot.value, index.value, word.value);
-    let back = items::answered(s, word.at, taken.words, taken.sum, 0);
-    digested(s, back, fleet, delta)
-}
-
-fn merge(
-    s: &[u8],
-    taken: Inputs,
-    fleet: &mut [u64],
-    delta: &[u64],
-    schema: &mut [u64],
-    own: &mut [u64],
-    third: &mut [u64],
-) -> Back {
-    let slot = number(s, taken.at);
-    let other = number(s, slot.at);
-    let got = fleet::merge(fleet, schema, own, third, slot.value, other.value);
-    let back = items::answered(s, other.at, taken.words, taken.sum, got.number());
-    digested(
-        s,
-        items::with_result(s, back, got.changed() as u64),
-        fleet,
-        delta,
-    )
-}
-
-fn insertion(
-    s: &[u8],
-    taken: Inputs,
-    fleet: &mut [u64],
-    delta: &mut [u64],
-    schema: &mut [u64],
-    own: &mut [u64],
-    values: &[u64],
-) -> Back {
-    let slot = number(s, taken.at);
-    let relation = number(s, slot.at);
-    let n = stream::words_of(s, taken.values, values);
-    let got = fleet::insertion(
-        fleet,
-        delta,
-        schema,
-        own,
-        slot.value,
-        relation.value,
-        &values[0..n],
-    );
-    let back = items::answered(s, relation.at, taken.words, taken.sum, got.number());
-    digested(s, items::with_result(s, back, got.label()), fleet, delta)
-}
-
-fn update(
-    s: &[u8],
-    taken: Inputs,
-    fleet: &mut [u64],
-    delta: &mut [u64],
-    schema: &mut [u64],
-    own: &mut [u64],
-) -> Back {
-    let slot = number(s, taken.at);
-    let index = number(s, slot.at);
-    let field = number(s, index.at);
-    let value = number(s, field.at);
-    let got = fleet::update(
-        fleet,
-        delta,
-        schema,
-        own,
-        slot.value,
-        index.value,
-        field.value,
-        value.value,
-    );
-    let back = items::answered(s, value.at, taken.words, taken.sum, got);
-    digested(s, back, fleet, delta)
-}
-
-fn deletion(
-    s: &[u8],
-    taken: Inputs,
-    fleet: &mut [u64],
-    delta: &mut [u64],
-    schema: &mut [u64],
-    own: &mut [u64],
-) -> Back {
-    let slot = number(s, taken.at);
-    let index = number(s, slot.at);
-    let got = fleet::deletion(fleet, delta, schema, own, slot.value, index.value);
-    let back = items::answered(s, index.at, taken.words, taken.sum, got);
-    digested(s, back, fleet, delta)
-}
-
-fn marks(s: &[u8], taken: Inputs, fleet: &mut [u64], schema: &mut [u64], own: &mut [u64]) -> Back {
-    let slot = number(s, taken.at);
-    let got = fleet::marks(fleet, schema, own, slot.value);
-    let back = items::answered(s, slot.at, taken.words, taken.sum, got.number());
-    let counted = items::with_result(s, back, got.count() as u64);
-    items::with_result(s, counted, slots::marks_digest(fleet))
-}
-
-fn walk(s: &[u8], taken: Inputs, fleet: &[u64], schema: &mut [u64], own: &mut [u64]) -> Back {
-    let slot = number(s, taken.at);
-    let place = number(s, slot.at);
-    let got = fleet::walk(fleet, schema, own, slot.value, place.value);
-    let answer = got.answer;
-    let back = items::answered(s, place.at, taken.words, taken.sum, answer.number());
-    let given = items::with_result(s, back, answer.index() as u64);
-    items::with_result(s, given, got.index as u64)
-}
-
-// Takes the slices of an item, and runs it.
-pub fn run(
-    s: &[u8],
-    c: Cursor,
-    call: u64,
-    rows: &[u64],
-    schema: &mut [u64],
-    own: &mut [u64],
-    third: &mut [u64],
-    values: &mut [u64],
-    fleet: &mut [u64],
-    delta: &mut [u64],
-) -> Back {
-    let taken = items::load_inputs(s, c, call, rows, schema, own, third, values);
-    run_loaded(s, call, taken, fleet, delta, schema, own, third, values)
-}
-
-fn run_loaded(
-    s: &[u8],
-    call: u64,
-    taken: Inputs,
-    fleet: &mut [u64],
-    delta: &mut [u64],
-    schema: &mut [u64],
-    own: &mut [u64],
-    third: &mut [u64],
-    values: &[u64],
-) -> Back {
-    match call {
-        16 => begin(s, taken, fleet, delta, schema),
-        17 => start(s, taken, fleet, delta, own),
-        18 => copy(s, taken, fleet, delta, own),
-        19 => copy_delta(s, taken, fleet, delta),
-        20 => spoil(s, taken, fleet, delta),
-        21 => merge(s, taken, fleet, delta, schema, own, third),
-        22 => insertion(s, taken, fleet, delta, schema, own, values),
-        23 => update(s, taken, fleet, delta, schema, own),
-        24 => deletion(s, taken, fleet, delta, schema, own),
-        25 => marks(s, taken, fleet, schema, own),
-        26 => walk(s, taken, fleet, schema, own),
-        _ => items::unknown(taken),
+    fn run<'a>(&mut self, call: u8, item: Item<'a>, lent: &mut Slices<'_>) -> Back<'a> {
+        match call {
+            16 => begin(item, self, lent.schema.words()),
+            17 => start(item, self),
+            18 => copy(item, self),
+            19 => copy_delta(item, self),
+            20 => spoil(item, self),
+            21 => merge(item, self),
+            22 => insertion(item, self, lent.values.words()),
+            23 => update(item, self),
+            24 => deletion(item, self),
+            25 => marks(item, self),
+            26 => walk(item, self),
+            _ => item.unknown(),
+        }
     }
+}
+
+// The next number as a slot's.
+fn slot_of(item: &mut Item<'_>) -> usize
+    ensures { result < 8 }
+{
+    (item.number() % SLOTS as u64) as usize
+}
+
+// The words of a slot of this capacity.
+fn words_of(capacity: u64) -> usize {
+    layout::HEADER_WORDS + layout::RECORD_WORDS * (capacity % (MOST_MARKS as u64 + 1)) as usize
+}
+
+// How many records a slot of this many words has.
+fn capacity(words: usize) -> usize {
+    (words.saturating_sub(layout::HEADER_WORDS) / layout::RECORD_WORDS).min(MOST_MARKS)
+}
+
+// An empty fleet with this schema, and the capacities of its five tables.
+fn begin<'a>(from: Item<'a>, fleet: &mut Fleet, schema: &[u64]) -> Back<'a> {
+    let mut item = from;
+    *fleet = Fleet::new();
+    fleet.schema.put(schema);
+    let _tables = item.number();
+    for slot in 0..SLOTS {
+        let capacity = if slot < 5 { item.number() } else { 0 };
+        fleet.slots[slot].length = words_of(capacity);
+    }
+    item.answered(0).result(fleet.digest())
+}
+
+fn start<'a>(from: Item<'a>, fleet: &mut Fleet) -> Back<'a> {
+    let mut item = from;
+    let slot = slot_of(&mut item);
+    let replica = item.number();
+    let got = table_start::start(fleet.slots[slot].all_mut(), replica);
+    item.answered(answers::number(got)).result(fleet.digest())
+}
+
+fn copy<'a>(from: Item<'a>, fleet: &mut Fleet) -> Back<'a> {
+    let mut item = from;
+    let slot = slot_of(&mut item);
+    let to = slot_of(&mut item);
+    fleet.slots[to] = fleet.slots[slot];
+    item.answered(0).result(fleet.digest())
+}
+
+fn copy_delta<'a>(from: Item<'a>, fleet: &mut Fleet) -> Back<'a> {
+    let mut item = from;
+    let slot = slot_of(&mut item);
+    let Fleet { slots, delta, .. } = fleet;
+    slots[slot].put(delta);
+    item.answered(0).result(fleet.digest())
+}
+
+fn spoil<'a>(from: Item<'a>, fleet: &mut Fleet) -> Back<'a> {
+    let mut item = from;
+    let slot = slot_of(&mut item);
+    let index = item.number() as usize;
+    let word = item.number();
+    if let Some(to) = fleet.slots[slot].all_mut().get_mut(index) {
+        *to = word;
+    }
+    item.answered(0).result(fleet.digest())
+}
+
+// A copy of the second slot is merged into the first.
+fn merge<'a>(from: Item<'a>, fleet: &mut Fleet) -> Back<'a> {
+    let mut item = from;
+    let slot = slot_of(&mut item);
+    let other = fleet.slots[slot_of(&mut item)];
+    let Fleet { slots, schema, .. } = fleet;
+    let got = merge::merge(schema.all(), slots[slot].all_mut(), other.all());
+    item.answered(answers::number(got))
+        .result(got.unwrap_or(0) as u64)
+        .result(fleet.digest())
+}
+
+fn insertion<'a>(from: Item<'a>, fleet: &mut Fleet, values: &[u64]) -> Back<'a> {
+    let mut item = from;
+    let slot = slot_of(&mut item);
+    let relation = item.number() as usize;
+    let Fleet {
+        slots,
+        schema,
+        delta,
+        ..
+    } = fleet;
+    let own = slots[slot].all_mut();
+    let got = edits::insertion(schema.all(), own, delta, relation, values);
+    item.answered(answers::number(got))
+        .result(got.unwrap_or(0))
+        .result(fleet.digest())
+}
+
+fn update<'a>(from: Item<'a>, fleet: &mut Fleet) -> Back<'a> {
+    let mut item = from;
+    let slot = slot_of(&mut item);
+    let index = item.number() as usize;
+    let field = item.number() as usize;
+    let value = item.number();
+    let Fleet {
+        slots,
+        schema,
+        delta,
+        ..
+    } = fleet;
+    let own = slots[slot].all_mut();
+    let got = edits::update(schema.all(), own, delta, index, field, value);
+    item.answered(answers::number(got)).result(fleet.digest())
+}
+
+fn deletion<'a>(from: Item<'a>, fleet: &mut Fleet) -> Back<'a> {
+    let mut item = from;
+    let slot = slot_of(&mut item);
+    let index = item.number() as usize;
+    let Fleet {
+        slots,
+        schema,
+        delta,
+        ..
+    } = fleet;
+    let own = slots[slot].all_mut();
+    let got = edits::deletion(schema.all(), own, delta, index);
+    item.answered(answers::number(got)).result(fleet.digest())
+}
+
+// Marks over as many zeros as the slot has records; they stay.
+fn marks<'a>(from: Item<'a>, fleet: &mut Fleet) -> Back<'a> {
+    let mut item = from;
+    let slot = slot_of(&mut item);
+    let own = fleet.slots[slot];
+    let mut marks = Held {
+        items: [0; MOST_MARKS],
+        length: capacity(own.length),
+    };
+    let got = list_shown::marks(fleet.schema.all(), own.all(), marks.all_mut());
+    fleet.marks = marks;
+    item.answered(answers::number(got))
+        .result(got.unwrap_or(0) as u64)
+        .result(fleet.marks_digest())
+}
+
+// A walk over the marks that stay.
+fn walk<'a>(from: Item<'a>, fleet: &Fleet) -> Back<'a> {
+    let mut item = from;
+    let slot = slot_of(&mut item);
+    let mut place = Place {
+        index: item.number() as usize,
+    };
+    let own = fleet.slots[slot].all();
+    let got = list_walk::next(&mut place, fleet.schema.all(), own, fleet.marks.all());
+    item.answered(answers::number(got))
+        .result(answers::index(got) as u64)
+        .result(place.index as u64)
 }

@@ -1,88 +1,67 @@
-// One function for each call: it takes the inputs from the stream, makes the call and compares.
-use answers::MarksAnswer;
-use list_walk::Moved;
-use vector_stream::items::{Back, Inputs};
-use vector_stream::stream::{Cursor, number};
-use vector_stream::{items, stream};
+// One function for each call: it takes the numbers of an item, makes the call on its slices and compares. The third slice has a
+// word for each mark.
+use list_walk::Place;
+use vector_stream::items::{Back, Item, Lent, Slices};
+use vector_stream::run::Calls;
 
 // How many marks are held: a table has at most 4,096 records, and a wrong length a few more.
 const MOST_MARKS: usize = layout::MOST_RECORDS + 4;
 
-fn marks(s: &[u8], taken: Inputs, schema: &[u64], own: &[u64], third: &mut [u64]) -> Back {
-    let mut bytes = [0u8; MOST_MARKS];
-    let n = stream::words_of(s, taken.schema, schema);
-    let m = stream::words_of(s, taken.own, own);
-    let k = stream::least(stream::words_of(s, taken.third, third) as u64, MOST_MARKS);
-    let got = marks_in(&schema[0..n], &own[0..m], third, &mut bytes[0..k]);
-    let back = items::answered(s, taken.at, taken.words, taken.sum, got.number());
-    items::with_exit(
-        s,
-        items::with_result(s, back, got.count() as u64),
-        taken.third,
-        third,
-    )
-}
+#[derive(Drop)]
+pub struct Lists;
 
-fn marks_in(schema: &[u64], own: &[u64], third: &mut [u64], bytes: &mut [u8]) -> MarksAnswer {
-    stream::to_bytes(third, bytes);
-    let got = list_shown::marks(schema, own, bytes);
-    stream::to_words(bytes, third);
-    got
-}
-
-fn walk(s: &[u8], taken: Inputs, schema: &[u64], own: &[u64], third: &[u64]) -> Back {
-    let mut bytes = [0u8; MOST_MARKS];
-    let n = stream::words_of(s, taken.schema, schema);
-    let m = stream::words_of(s, taken.own, own);
-    let k = stream::least(stream::words_of(s, taken.third, third) as u64, MOST_MARKS);
-    let place = number(s, taken.at);
-    let got = walk_in(
-        &schema[0..n],
-        &own[0..m],
-        third,
-        &mut bytes[0..k],
-        place.value,
-    );
-    let answer = got.answer;
-    let back = items::answered(s, place.at, taken.words, taken.sum, answer.number());
-    items::with_result(
-        s,
-        items::with_result(s, back, answer.index() as u64),
-        got.index as u64,
-    )
-}
-
-fn walk_in(schema: &[u64], own: &[u64], third: &[u64], bytes: &mut [u8], place: u64) -> Moved {
-    stream::to_bytes(third, bytes);
-    list_walk::next_from(schema, own, bytes, place as usize)
-}
-
-// Takes the slices of an item, and runs it.
-pub fn run(
-    s: &[u8],
-    c: Cursor,
-    call: u64,
-    rows: &[u64],
-    schema: &mut [u64],
-    own: &mut [u64],
-    third: &mut [u64],
-    values: &mut [u64],
-) -> Back {
-    let taken = items::load_inputs(s, c, call, rows, schema, own, third, values);
-    run_loaded(s, call, taken, schema, own, third)
-}
-
-fn run_loaded(
-    s: &[u8],
-    call: u64,
-    taken: Inputs,
-    schema: &[u64],
-    own: &mut [u64],
-    third: &mut [u64],
-) -> Back {
-    match call {
-        14 => marks(s, taken, schema, own, third),
-        15 => walk(s, taken, schema, own, third),
-        _ => items::unknown(taken),
+impl Calls for Lists {
+    fn takes_slices(&self, _call: u8) -> bool {
+        true
     }
+
+    fn run<'a>(&mut self, call: u8, item: Item<'a>, lent: &mut Slices<'_>) -> Back<'a> {
+        let schema = lent.schema.words();
+        let own = lent.own.words();
+        match call {
+            14 => marks(item, schema, own, &mut lent.third),
+            15 => walk(item, schema, own, lent.third.words()),
+            _ => item.unknown(),
+        }
+    }
+}
+
+// Puts marks, which the stream holds as words, into bytes.
+fn to_bytes(words: &[u64], bytes: &mut [u8]) {
+    for (byte, word) in bytes.iter_mut().zip(words) {
+        *byte = (*word % 256) as u8;
+    }
+}
+
+// Puts marks back into words.
+fn to_words(bytes: &[u8], words: &mut [u64]) {
+    for (word, byte) in words.iter_mut().zip(bytes) {
+        *word = u64::from(*byte);
+    }
+}
+
+fn marks<'a>(item: Item<'a>, schema: &[u64], own: &[u64], third: &mut Lent<'_>) -> Back<'a> {
+    let mut held = [0u8; MOST_MARKS];
+    let words = third.words_mut();
+    let bytes = &mut held[..words.len().min(MOST_MARKS)];
+    to_bytes(words, bytes);
+    let got = list_shown::marks(schema, own, bytes);
+    to_words(bytes, words);
+    item.answered(answers::number(got))
+        .result(got.unwrap_or(0) as u64)
+        .third(third)
+}
+
+fn walk<'a>(from: Item<'a>, schema: &[u64], own: &[u64], words: &[u64]) -> Back<'a> {
+    let mut item = from;
+    let mut held = [0u8; MOST_MARKS];
+    let bytes = &mut held[..words.len().min(MOST_MARKS)];
+    to_bytes(words, bytes);
+    let mut place = Place {
+        index: item.number() as usize,
+    };
+    let got = list_walk::next(&mut place, schema, own, bytes);
+    item.answered(answers::number(got))
+        .result(answers::index(got) as u64)
+        .result(place.index as u64)
 }

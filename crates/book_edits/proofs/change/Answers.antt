@@ -1,22 +1,25 @@
 -- `book_edits::change` meets its contract. Of the kind it is the library's call; of another kind the first checks tell, then 6.
 -- Assumes nothing.
-use mathlib.Core.Path.{ap, sym, ◌∙◌}
-use native.Mathlib.Omega.{arith}
-use Rattle.answers.specs.Told.{table_told}
-use Rattle.book_edits.proofs.Calls.{changed, change_first, change_hidden}
+use mathlib.Core.Path.{◌∙◌, ap}
+use Rattle.answers.specs.Told.{told}
+use Rattle.answers.proofs.Told.{handed_on}
+use Rattle.book_edits.proofs.Calls.{changed, unchanged}
 use Rattle.book_edits.proofs.change.Goals as goal
 
-pub returns-then-is_of : goal.returns-then-is_of
-returns-then-is_of c = let q = changed _ _ _ c.schema-schema.ensures _ _ _ _ _ _ c.is_of.ensures c.if-is_of.true _ _ c.update.ensures.answer c.update.ensures.words c.update.ensures.delta_words in record { answer = q.0; words = q.1.0; delta_words = q.1.1 }
+pub returns-in_err-check_kind-clause-answer : goal.returns-in_err-check_kind-clause-answer
+returns-in_err-check_kind-clause-answer c = handed_on (λ _. told 0 0) c.from_residual.result _ c.from_residual.ensures.1 ∙ ap (λ n. told n 0) (unchanged _ _ _ _ c.in_err-check_kind.ensures.other.0 _ c.in_err-check_kind.ensures.other.1 _ _).0
 
-pub returns-in-Good : goal.returns-in-Good
-returns-in-Good c = let q = change_hidden _ _ _ _ _ c.is_of.ensures c.if-is_of.false _ _ (ap table_told (sym c.in-Good.is) ∙ c.other_kind.ensures) in record { answer = q.0; words = q.1.0; delta_words = q.1.1 }
+pub returns-in_err-check_kind-clause-words : goal.returns-in_err-check_kind-clause-words
+returns-in_err-check_kind-clause-words c = (unchanged _ _ _ _ c.in_err-check_kind.ensures.other.0 _ c.in_err-check_kind.ensures.other.1 _ _).1.0
 
-pub returns-in-WrongLength : goal.returns-in-WrongLength
-returns-in-WrongLength c = let q = change_first _ _ _ _ _ c.is_of.ensures c.if-is_of.false _ _ 1 (omega arith) (ap table_told (sym c.in-WrongLength.is) ∙ c.other_kind.ensures) in record { answer = q.0; words = q.1.0; delta_words = q.1.1 }
+pub returns-in_err-check_kind-clause-delta_words : goal.returns-in_err-check_kind-clause-delta_words
+returns-in_err-check_kind-clause-delta_words c = (unchanged _ _ _ _ c.in_err-check_kind.ensures.other.0 _ c.in_err-check_kind.ensures.other.1 _ _).1.1
 
-pub returns-in-SchemaBroken : goal.returns-in-SchemaBroken
-returns-in-SchemaBroken c = let q = change_first _ _ _ _ _ c.is_of.ensures c.if-is_of.false _ _ 2 (omega arith) (ap table_told (sym c.in-SchemaBroken.is) ∙ c.other_kind.ensures) in record { answer = q.0; words = q.1.0; delta_words = q.1.1 }
+pub returns-clause-answer : goal.returns-clause-answer
+returns-clause-answer c = (changed _ _ _ c.schema-schema.ensures _ _ _ _ _ c.in_ok-check_kind.ensures.same _ _ c.update.ensures.answer c.update.ensures.words c.update.ensures.delta_words).0
 
-pub returns-in-TableBroken : goal.returns-in-TableBroken
-returns-in-TableBroken c = let q = change_first _ _ _ _ _ c.is_of.ensures c.if-is_of.false _ _ 3 (omega arith) (ap table_told (sym c.in-TableBroken.is) ∙ c.other_kind.ensures) in record { answer = q.0; words = q.1.0; delta_words = q.1.1 }
+pub returns-clause-words : goal.returns-clause-words
+returns-clause-words c = (changed _ _ _ c.schema-schema.ensures _ _ _ _ _ c.in_ok-check_kind.ensures.same _ _ c.update.ensures.answer c.update.ensures.words c.update.ensures.delta_words).1.0
+
+pub returns-clause-delta_words : goal.returns-clause-delta_words
+returns-clause-delta_words c = (changed _ _ _ c.schema-schema.ensures _ _ _ _ _ c.in_ok-check_kind.ensures.same _ _ c.update.ensures.answer c.update.ensures.words c.update.ensures.delta_words).1.1

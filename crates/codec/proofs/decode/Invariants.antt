@@ -1,4 +1,4 @@
-use Prim.Native.Nat.{ℕ, ◌≤◌, ◌<◌, ◌-◌, ◌*◌}
+use Prim.Native.Nat.{ℕ, ◌<◌, ◌*◌}
 use mathlib.Core.Path.{◌≡◌}
 use lib.ListN.{length, get_or}
 use Rattle.model.specs.Layout.{word_bytes}
@@ -6,7 +6,4 @@ use Rattle.codec.specs.Bytes.{word_at}
 use Rattle.codec.proofs.decode.Given as goal
 
 abbrev pub invariant-loop-i : goal.invariant-loop-i
-invariant-loop-i l = (l.i ≤ length l.w) × (length l.w ≡ length l.initial.w) × ((k : ℕ) → k < l.i → get_or l.w k 0 ≡ word_at l.b (word_bytes * k))
-
-abbrev pub decreases-loop-i : goal.decreases-loop-i
-decreases-loop-i l = length l.w - l.i
+invariant-loop-i l = (length l.w ≡ length l.initial.w) × ((k : ℕ) → k < l.i → get_or l.w k 0 ≡ word_at l.b (word_bytes * k))

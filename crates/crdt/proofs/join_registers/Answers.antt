@@ -1,9 +1,7 @@
--- `crdt::join_registers` meets its contract: what is compared is what the join gave.
--- Assumes nothing.
-use borrow.Author.Rules.{rules}
+use Rattle.std.proofs.Common.{rules, refl}
 use Rattle.crdt.specs.Cells.{reg_changed}
 use Rattle.crdt.proofs.join_registers.Goals as goal
 
-pub returns : goal.returns
+pub returns-clause-changed : goal.returns-clause-changed
 unfolding reg_changed
-returns c = search rules
+returns-clause-changed c = search rules

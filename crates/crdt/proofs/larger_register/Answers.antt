@@ -1,18 +1,17 @@
--- `crdt::larger_register` meets its contract: each branch is a case of the order.
+-- `crdt::larger_register` meets its contract: the order of the fields is that of the join.
 -- Assumes nothing.
-use borrow.Author.Rules.{rules}
-use native.Mathlib.Omega.{arith}
-use Rattle.crdt.proofs.Order.{join_later, join_earlier, join_tie_up, join_tie_down}
+use Rattle.std.proofs.Common.{◌≡◌, refl, ◌∙◌, ap, Bool, true, false, cond}
+use Rattle.crdt.specs.declared.Register.{Register}
+use Rattle.crdt.specs.Cells.{reg}
+use Rattle.crdt.proofs.Order.{join_larger}
 use Rattle.crdt.proofs.larger_register.Goals as goal
 
-pub returns-then-a-b : goal.returns-then-a-b
-returns-then-a-b c = search (rules, join_later)
+picked : (p : Bool) (x y : Register) → reg (cond p x y).value (cond p x y).stamp ≡ cond p (reg x.value x.stamp) (reg y.value y.stamp)
+picked true x y = refl
+picked false x y = refl
 
-pub returns-then-a-b-3 : goal.returns-then-a-b-3
-returns-then-a-b-3 c = search (rules, join_tie_up)
-
-pub returns-else-a-b-3 : goal.returns-else-a-b-3
-returns-else-a-b-3 c = search (rules, join_tie_down)
-
-pub returns-else-a-b-2 : goal.returns-else-a-b-2
-returns-else-a-b-2 c = join_earlier _ _ _ _ (omega arith)
+pub returns : goal.returns
+returns c =
+    let a = c.args.a in
+    let b = c.args.b in
+    ap (λ (r : Register). reg r.value r.stamp) c.max.ensures ∙ picked _ a b ∙ join_larger a.value a.stamp b.value b.stamp

@@ -11,8 +11,5 @@ returns-then-not-is_marked c = aborting_hidden _ _ _ _ _ c.requires.0 c.requires
 pub returns-then-y-i : goal.returns-then-y-i
 returns-then-y-i c = aborting_self _ _ _ _ _ c.requires.0 c.requires.1 c.if-y-i.true
 
-pub aborts-requires : goal.aborts-requires
-aborts-requires c = (c.requires.1, c.requires.0, c.requires.2, c.requires.3)
-
 pub returns : goal.returns
 returns c = aborting_here _ _ _ _ _ c.requires.0 c.requires.1 _ _ c.is_marked.ensures (not_left _ (not_from_true _ c.if-not-is_marked.false)) c.if-y-i.false c.aborts.ensures

@@ -1,23 +1,23 @@
 -- `edit_conflicts::is_taken` meets its contract.
 -- Assumes nothing.
-use Prim.Native.Nat.{◌+◌, ◌-◌}
 use mathlib.Core.Path.{sym, ◌∙◌}
-use native.Mathlib.Omega.{arith}
-use Rattle.edit_basics.proofs.Turns.{none_start, none_more}
+use mathlib.Core.Bool.{◌&&◌}
+use Rattle.std.proofs.Common.{rules}
+use Rattle.marks.specs.Marks.{is_marked}
+use Rattle.edit_basics.proofs.Places.{placed}
+use Rattle.edit_basics.proofs.Upto.{any_upto, asked_upto}
+use Rattle.edit_laws.specs.Clash.{clashes}
 use Rattle.edit_laws.proofs.Clash.{stand_found, stand_none}
 use Rattle.edit_conflicts.proofs.is_taken.Goals as goal
 
-pub loop-y-init : goal.loop-y-init
-loop-y-init c = (omega arith, c.used-used.ensures, none_start _)
-
-pub takes-requires : goal.takes-requires
-takes-requires c = (record { checked = c.requires.0; least = omega arith; most = omega arith }, c.requires.2)
-
-pub returns-then-takes : goal.returns-then-takes
-returns-then-takes c = λ p same. stand_found _ _ _ c.requires.0 c.requires.1 _ p same (c.loop-y.y + 1) (omega arith) (omega arith) (sym c.takes.ensures ∙ c.if-takes.true)
-
-pub loop-y-preserved : goal.loop-y-preserved
-loop-y-preserved c = (omega arith, c.loop-y.invariant.1, none_more _ _ c.loop-y.invariant.2 (sym c.takes.ensures ∙ c.if-takes.false))
+pub any-requires-clause-callable : goal.any-requires-clause-callable
+any-requires-clause-callable c =
+    asked_upto _ c.new.ensures.start (c.new.ensures.end ∙ c.used.ensures) c.new.ensures.exhausted (λ x p q h. search rules)
+    (λ x l m. let o = placed c.args.s.t.checked l m in search rules)
 
 pub returns : goal.returns
-returns c = λ p same. stand_none _ _ _ c.requires.0 c.requires.1 _ p same (λ z a b. c.loop-y.invariant.2 z a (omega arith))
+returns c = λ p same.
+    let a = c.args in
+    any_upto (λ z. is_marked a.s.stands.now z && clashes a.s.t.schema.now a.s.t.table.now a.r a.first a.second a.but a.values.now z) _ _ _ _ _
+    c.new.ensures.start (c.new.ensures.end ∙ c.used.ensures) c.new.ensures.exhausted c.any.ensures.ran (λ x b q h. search rules) _
+    (λ y l m h. sym (stand_found _ _ _ a.s.t.checked a.s.standing_marks _ p same y l m h)) (λ h. sym (stand_none _ _ _ a.s.t.checked a.s.standing_marks _ p same h))

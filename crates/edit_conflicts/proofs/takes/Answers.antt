@@ -14,11 +14,7 @@ returns-then-y-but c = takes_but _ _ _ _ _ _ _ _ _ c.if-y-but.true
 pub returns-then-relation_at-r : goal.returns-then-relation_at-r
 returns-then-relation_at-r c = takes_other _ _ _ _ _ _ _ _ _ _ c.relation_at.ensures c.if-relation_at-r.true
 
-pub conflicts_on-requires : goal.conflicts_on-requires
-conflicts_on-requires c = let o = c.requires.0 in (o.checked.schema, o.checked.formed, o.least, o.most, c.requires.1)
-
-pub conflicts_on-requires-2 : goal.conflicts_on-requires-2
-conflicts_on-requires-2 c = let o = c.requires.0 in (o.checked.schema, o.checked.formed, o.least, o.most, c.requires.1)
-
 pub returns : goal.returns
-returns c = takes_here _ _ _ _ _ _ _ _ _ _ _ _ _ c.is_marked.ensures (not_left _ (not_from_true _ c.if-not-is_marked.false)) c.if-y-but.false c.relation_at.ensures c.if-relation_at-r.false c.conflicts_on.ensures c.conflicts_on-2.ensures
+returns c =
+    takes_here _ _ _ _ _ _ _ _ _ _ _ _ _ c.is_marked.ensures (not_left _ (not_from_true _ c.if-not-is_marked.false)) c.if-y-but.false
+    c.relation_at.ensures c.if-relation_at-r.false c.conflicts_on.ensures c.conflicts_on-2.ensures

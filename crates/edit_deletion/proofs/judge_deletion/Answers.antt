@@ -1,23 +1,15 @@
 -- `edit_deletion::judge_deletion` meets its contract. Checks 1 to 3, then the deletion's own.
 -- Assumes nothing.
-use mathlib.Core.Path.{ap, sym, ◌∙◌}
-use native.Mathlib.Omega.{arith}
-use Rattle.answers.specs.Told.{table_told}
-use Rattle.edit_laws.proofs.First.{told_placed}
+use mathlib.Core.Path.{◌∙◌}
+use Rattle.edit_laws.proofs.First.{handed_number, first_placed}
 use Rattle.edit_laws.proofs.AcceptedDeletion.{deletion_refused, deletion_judged}
 use Rattle.edit_deletion.proofs.judge_deletion.Goals as goal
 
+pub returns-in_err-t-clause-number : goal.returns-in_err-t-clause-number
+returns-in_err-t-clause-number c = handed_number c.from_residual.result _ c.from_residual.ensures.1 ∙ deletion_refused _ _ _ _ _ c.bad_index.ensures _ c.in_err-t.ensures.number
+
 pub deletion_checks-requires : goal.deletion_checks-requires
-deletion_checks-requires c = (told_placed _ _ _ _ _ c.bad_index.ensures (ap table_told (sym c.in-Good.is) ∙ c.first_checks-first.ensures), c.requires)
+deletion_checks-requires c = (first_placed _ _ _ _ _ c.bad_index.ensures c.in_ok-t.ensures.number _ _ c.in_ok-t.ensures.lent.1 c.in_ok-t.t.checked, c.requires)
 
-pub returns-in-WrongLength : goal.returns-in-WrongLength
-returns-in-WrongLength c = record { answer = (deletion_refused _ _ _ _ _ c.bad_index.ensures {X = ⊥} 1 (omega arith) (ap table_told (sym c.in-WrongLength.is) ∙ c.first_checks-first.ensures)).0; redone = λ z. absurd ((deletion_refused _ _ _ _ _ c.bad_index.ensures {X = ⊥} 1 (omega arith) (ap table_told (sym c.in-WrongLength.is) ∙ c.first_checks-first.ensures)).1 z) }
-
-pub returns-in-SchemaBroken : goal.returns-in-SchemaBroken
-returns-in-SchemaBroken c = record { answer = (deletion_refused _ _ _ _ _ c.bad_index.ensures {X = ⊥} 2 (omega arith) (ap table_told (sym c.in-SchemaBroken.is) ∙ c.first_checks-first.ensures)).0; redone = λ z. absurd ((deletion_refused _ _ _ _ _ c.bad_index.ensures {X = ⊥} 2 (omega arith) (ap table_told (sym c.in-SchemaBroken.is) ∙ c.first_checks-first.ensures)).1 z) }
-
-pub returns-in-TableBroken : goal.returns-in-TableBroken
-returns-in-TableBroken c = record { answer = (deletion_refused _ _ _ _ _ c.bad_index.ensures {X = ⊥} 3 (omega arith) (ap table_told (sym c.in-TableBroken.is) ∙ c.first_checks-first.ensures)).0; redone = λ z. absurd ((deletion_refused _ _ _ _ _ c.bad_index.ensures {X = ⊥} 3 (omega arith) (ap table_told (sym c.in-TableBroken.is) ∙ c.first_checks-first.ensures)).1 z) }
-
-pub returns-in-Good : goal.returns-in-Good
-returns-in-Good c = record { answer = (deletion_judged _ _ _ _ _ c.bad_index.ensures (ap table_told (sym c.in-Good.is) ∙ c.first_checks-first.ensures) _ c.deletion_checks.ensures.answer c.deletion_checks.ensures.redone).0; redone = (deletion_judged _ _ _ _ _ c.bad_index.ensures (ap table_told (sym c.in-Good.is) ∙ c.first_checks-first.ensures) _ c.deletion_checks.ensures.answer c.deletion_checks.ensures.redone).1 }
+pub returns-clause-number : goal.returns-clause-number
+returns-clause-number c = c.deletion_checks.ensures.number ∙ rw (c.in_ok-t.ensures.lent.0, c.in_ok-t.ensures.lent.1) (deletion_judged _ _ _ _ _ c.bad_index.ensures c.in_ok-t.ensures.number)

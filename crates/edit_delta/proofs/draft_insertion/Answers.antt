@@ -4,17 +4,14 @@ use Rattle.edit_delta.proofs.Given.{source}
 use Rattle.edit_delta.proofs.Turns.{found_small, insertion_edited, insertion_findable, insertion_done}
 use Rattle.edit_delta.proofs.draft_insertion.Goals as goal
 
-pub draft_records-requires : goal.draft_records-requires
-draft_records-requires c = (source _ _ _ _ c.requires.ready, insertion_edited _ _ _ _ _ _ c.requires, c.requires.ready.delta)
-
-pub new_label-label-requires : goal.new_label-label-requires
-new_label-label-requires c = c.requires.clock
+pub invariant_of-draft : goal.invariant_of-draft
+invariant_of-draft c = record { source = source _ _ _ _ c.requires.ready; edited = insertion_edited _ _ _ _ _ _ c.requires }
 
 pub find-at-requires : goal.find-at-requires
-find-at-requires c = insertion_findable _ _ _ _ _ _ c.requires _ _ c.draft_records.ensures c.new_label-label.ensures
+find-at-requires c = insertion_findable _ _ _ _ _ _ c.requires _ _ c.write.ensures c.new_label-label.ensures
 
 pub write_values-requires : goal.write_values-requires
-write_values-requires c = (found_small _ _ (source _ _ _ _ c.requires.ready) _ _ (insertion_edited _ _ _ _ _ _ c.requires) _ _ _ _ c.draft_records.ensures c.find-at.ensures, c.requires.count)
+write_values-requires c = (found_small _ _ (source _ _ _ _ c.requires.ready) _ _ (insertion_edited _ _ _ _ _ _ c.requires) _ _ _ _ c.write.ensures c.find-at.ensures, c.requires.count)
 
 pub returns : goal.returns
-returns c = insertion_done _ _ _ _ _ _ c.requires _ _ _ _ _ _ c.draft_records.ensures c.new_label-label.ensures c.find-at.ensures c.write_values.ensures c.clock.ensures c.store.ensures
+returns c = insertion_done _ _ _ _ _ _ c.requires _ _ _ _ _ _ c.write.ensures c.new_label-label.ensures c.find-at.ensures c.write_values.ensures c.clock.ensures c.store.ensures

@@ -21,14 +21,10 @@ returns-then-flag_at-ne1 c = deletion_even _ _ _ _ _ c.requires.0 c.requires.1 c
 pub returns-then-p-i : goal.returns-then-p-i
 returns-then-p-i c = deletion_self _ _ _ _ _ c.requires.0 c.requires.1 c.flag_at.ensures (odd _ c.if-flag_at-ne1.false) c.if-p-i.true
 
-pub aborts-requires : goal.aborts-requires
-aborts-requires c = c.requires
-
 pub returns-then-not-aborts : goal.returns-then-not-aborts
 returns-then-not-aborts c = deletion_no _ _ _ _ _ c.requires.0 c.requires.1 c.flag_at.ensures _ (odd _ c.if-flag_at-ne1.false) c.aborts.ensures (c.if-not-aborts.true)
 
-pub is_supported-requires : goal.is_supported-requires
-is_supported-requires c = c.requires
-
 pub returns : goal.returns
-returns c = deletion_yes _ _ _ _ _ c.requires.0 c.requires.1 c.flag_at.ensures _ _ (odd _ c.if-flag_at-ne1.false) c.if-p-i.false c.aborts.ensures (not_left _ (not_from_true _ c.if-not-aborts.false)) c.is_supported.ensures
+returns c =
+    deletion_yes _ _ _ _ _ c.requires.0 c.requires.1 c.flag_at.ensures _ _ (odd _ c.if-flag_at-ne1.false) c.if-p-i.false c.aborts.ensures
+    (not_left _ (not_from_true _ c.if-not-aborts.false)) c.is_supported.ensures

@@ -8,14 +8,8 @@ use Rattle.edit_redo.proofs.supports.Goals as goal
 pub returns-then-y-but : goal.returns-then-y-but
 returns-then-y-but c = backs_self _ _ _ _ _ c.requires.0 c.requires.1 c.if-y-but.true
 
-pub is_live-requires : goal.is_live-requires
-is_live-requires c = (c.requires.1.checked, c.requires.1.least, c.requires.1.most)
-
 pub returns-then-not-is_live : goal.returns-then-not-is_live
 returns-then-not-is_live c = backs_dead _ _ _ _ _ c.requires.0 c.requires.1 _ c.is_live.ensures (c.if-not-is_live.true)
-
-pub refers-requires : goal.refers-requires
-refers-requires c = (c.requires.1, c.requires.2, c.requires.3, c.requires.4)
 
 pub returns : goal.returns
 returns c = backs_live _ _ _ _ _ c.requires.0 c.requires.1 _ _ c.if-y-but.false c.is_live.ensures (not_left _ (not_from_true _ c.if-not-is_live.false)) c.refers.ensures

@@ -7,9 +7,6 @@ use Rattle.edit_redo.proofs.update_picks.Goals as goal
 pub returns-then-flag_at-eq0 : goal.returns-then-flag_at-eq0
 returns-then-flag_at-eq0 c = update_even _ _ _ _ _ c.requires.1 c.flag_at.ensures _ _ _ c.if-flag_at-eq0.true
 
-pub leads_to-requires : goal.leads_to-requires
-leads_to-requires c = (c.requires.1, c.requires.5)
-
 pub returns-then-leads_to : goal.returns-then-leads_to
 returns-then-leads_to c = update_new _ _ _ _ _ c.requires.1 c.flag_at.ensures _ _ _ _ c.if-flag_at-eq0.false c.leads_to.ensures c.if-leads_to.true
 
@@ -19,14 +16,12 @@ returns-then-kind-ge-PROPAGATION c = update_propagation _ _ _ _ _ c.requires.1 c
 pub returns-then-old-new : goal.returns-then-old-new
 returns-then-old-new c = update_same _ _ _ _ _ c.requires.1 c.flag_at.ensures _ _ _ _ c.if-flag_at-eq0.false c.leads_to.ensures c.if-leads_to.false c.if-old-new.true
 
-pub leads_to-requires-2 : goal.leads_to-requires-2
-leads_to-requires-2 c = (c.requires.1, c.requires.4)
-
-pub is_supported-requires : goal.is_supported-requires
-is_supported-requires c = (c.requires.0, c.requires.1, c.requires.2, c.requires.3)
-
 pub returns-then-leads_to-2 : goal.returns-then-leads_to-2
-returns-then-leads_to-2 c = update_old _ _ _ _ _ c.requires.1 c.flag_at.ensures _ _ _ _ c.if-flag_at-eq0.false c.leads_to.ensures c.if-leads_to.false _ (omega arith) c.if-old-new.false c.leads_to-2.ensures _ c.if-leads_to-2.true c.is_supported.ensures
+returns-then-leads_to-2 c =
+    update_old _ _ _ _ _ c.requires.1 c.flag_at.ensures _ _ _ _ c.if-flag_at-eq0.false c.leads_to.ensures c.if-leads_to.false
+    _ (omega arith) c.if-old-new.false c.leads_to-2.ensures _ c.if-leads_to-2.true c.is_supported.ensures
 
 pub returns : goal.returns
-returns c = update_not_old _ _ _ _ _ c.requires.1 c.flag_at.ensures _ _ _ _ c.if-flag_at-eq0.false c.leads_to.ensures c.if-leads_to.false _ (omega arith) c.if-old-new.false c.leads_to-2.ensures c.if-leads_to-2.false
+returns c =
+    update_not_old _ _ _ _ _ c.requires.1 c.flag_at.ensures _ _ _ _ c.if-flag_at-eq0.false c.leads_to.ensures c.if-leads_to.false
+    _ (omega arith) c.if-old-new.false c.leads_to-2.ensures c.if-leads_to-2.false

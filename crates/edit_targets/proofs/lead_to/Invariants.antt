@@ -1,4 +1,3 @@
-use Prim.Native.Nat.{◌≤◌, ◌-◌}
 use mathlib.Core.Path.{◌≡◌}
 use mathlib.Core.Bool.{true}
 use lib.Dec.{eqb}
@@ -13,7 +12,8 @@ use Rattle.edit_basics.proofs.Values.{rules, ahead}
 use Rattle.edit_targets.proofs.lead_to.Given as goal
 
 abbrev pub invariant-loop-j : goal.invariant-loop-j
-invariant-loop-j l = (l.j ≤ length l.values) × (length l.values ≡ field_count l.schema l.r) × (rules (kind_at l.schema l.r) (field_count l.schema l.r) l.values l.j ≡ true) × (some_of (λ k. eqb (record_of l.table l.i).key k) (leads is_reference (kinds_of l.schema l.r) (bare l.values)) ≡ some_of (λ k. eqb (record_of l.table l.i).key k) (ahead (kind_at l.schema l.r) (field_count l.schema l.r) l.values l.j))
-
-abbrev pub decreases-loop-j : goal.decreases-loop-j
-decreases-loop-j l = length l.values - l.j
+invariant-loop-j l =
+    (length l.values ≡ field_count l.t.schema.now l.r)
+    × (rules (kind_at l.t.schema.now l.r) (field_count l.t.schema.now l.r) l.values l.j ≡ true)
+    × (some_of (λ k. eqb (record_of l.t.table.now l.i).key k) (leads is_reference (kinds_of l.t.schema.now l.r) (bare l.values))
+    ≡ some_of (λ k. eqb (record_of l.t.table.now l.i).key k) (ahead (kind_at l.t.schema.now l.r) (field_count l.t.schema.now l.r) l.values l.j))

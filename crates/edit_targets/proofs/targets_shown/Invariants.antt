@@ -1,4 +1,3 @@
-use Prim.Native.Nat.{◌≤◌, ◌-◌}
 use mathlib.Core.Path.{◌≡◌}
 use mathlib.Core.Bool.{true}
 use lib.ListN.{length}
@@ -12,7 +11,8 @@ use Rattle.edit_basics.proofs.Values.{rules, ahead}
 use Rattle.edit_targets.proofs.targets_shown.Given as goal
 
 abbrev pub invariant-loop-j : goal.invariant-loop-j
-invariant-loop-j l = (l.j ≤ length l.values) × (length l.values ≡ field_count l.schema l.r) × (rules (kind_at l.schema l.r) (field_count l.schema l.r) l.values l.j ≡ true) × (all_of (has (shown (schema_of l.schema) (held l.table))) (leads is_reference (kinds_of l.schema l.r) (bare l.values)) ≡ all_of (has (shown (schema_of l.schema) (held l.table))) (ahead (kind_at l.schema l.r) (field_count l.schema l.r) l.values l.j))
-
-abbrev pub decreases-loop-j : goal.decreases-loop-j
-decreases-loop-j l = length l.values - l.j
+invariant-loop-j l =
+    (length l.values ≡ field_count l.s.t.schema.now l.r)
+    × (rules (kind_at l.s.t.schema.now l.r) (field_count l.s.t.schema.now l.r) l.values l.j ≡ true)
+    × (all_of (has (shown (schema_of l.s.t.schema.now) (held l.s.t.table.now))) (leads is_reference (kinds_of l.s.t.schema.now l.r) (bare l.values))
+    ≡ all_of (has (shown (schema_of l.s.t.schema.now) (held l.s.t.table.now))) (ahead (kind_at l.s.t.schema.now l.r) (field_count l.s.t.schema.now l.r) l.values l.j))

@@ -1,7 +1,8 @@
 -- `herd::herd_delete` meets its contract.
 -- Assumes nothing.
-use Rattle.answers.proofs.Told.{told_number}
+use mathlib.Core.Path.{◌∙◌}
+use Rattle.answers.proofs.Told.{done_number}
 use Rattle.herd.proofs.herd_delete.Goals as goal
 
 pub returns : goal.returns
-returns c = record { answer = told_number c.deletion.ensures.answer c.number.ensures; words = c.deletion.ensures.words; delta_words = c.deletion.ensures.delta_words }
+returns c = record { answer = c.number.ensures ∙ done_number _ c.deletion.ensures.answer; words = c.deletion.ensures.words; delta_words = c.deletion.ensures.delta_words }

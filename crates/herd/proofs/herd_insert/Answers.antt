@@ -1,7 +1,10 @@
 -- `herd::herd_insert` meets its contract.
 -- Assumes nothing.
-use Rattle.answers.proofs.Told.{told_number, told_value}
+use mathlib.Core.Path.{◌∙◌}
+use Rattle.answers.proofs.Told.{value_number, value_told_is}
 use Rattle.herd.proofs.herd_insert.Goals as goal
 
 pub returns : goal.returns
-returns c = record { answer = told_number c.insertion-answer.ensures.answer c.number.ensures; name = told_value c.insertion-answer.ensures.answer c.label.ensures; words = c.insertion-answer.ensures.words; delta_words = c.insertion-answer.ensures.delta_words }
+returns c =
+    let e = c.insertion-answer.ensures in
+    record { answer = c.number.ensures ∙ value_number _ e.answer; name = c.unwrap_or.ensures ∙ value_told_is _ e.answer; words = e.words; delta_words = e.delta_words }

@@ -1,7 +1,10 @@
 -- `herd::herd_marks` meets its contract.
 -- Assumes nothing.
-use Rattle.answers.proofs.Told.{told_number, told_value}
+use mathlib.Core.Path.{◌∙◌}
+use Rattle.answers.proofs.Told.{value_number, value_told_is}
 use Rattle.herd.proofs.herd_marks.Goals as goal
 
 pub returns : goal.returns
-returns c = record { answer = told_number c.marks-answer.ensures.0 c.number.ensures; count = told_value c.marks-answer.ensures.0 c.count.ensures; bytes = c.marks-answer.ensures.1 }
+returns c =
+    let e = c.marks-answer.ensures in
+    record { answer = c.number.ensures ∙ value_number _ e.0; count = c.unwrap_or.ensures ∙ value_told_is _ e.0; bytes = e.1 }

@@ -1,7 +1,10 @@
 -- `herd::herd_merge` meets its contract.
 -- Assumes nothing.
-use Rattle.answers.proofs.Told.{told_number, told_value}
+use mathlib.Core.Path.{◌∙◌}
+use Rattle.answers.proofs.Told.{value_number, value_told_is}
 use Rattle.herd.proofs.herd_merge.Goals as goal
 
 pub returns : goal.returns
-returns c = record { answer = told_number c.merge-answer.ensures.answer c.number.ensures; count = told_value c.merge-answer.ensures.answer c.changed.ensures; words = c.merge-answer.ensures.words }
+returns c =
+    let e = c.merge-answer.ensures in
+    record { answer = c.number.ensures ∙ value_number _ e.answer; count = c.unwrap_or.ensures ∙ value_told_is _ e.answer; words = e.words }

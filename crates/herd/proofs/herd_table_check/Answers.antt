@@ -1,7 +1,8 @@
 -- `herd::herd_table_check` meets its contract.
 -- Assumes nothing.
-use Rattle.answers.proofs.Told.{told_number}
+use mathlib.Core.Path.{◌∙◌}
+use Rattle.answers.proofs.Told.{done_number}
 use Rattle.herd.proofs.herd_table_check.Goals as goal
 
 pub returns : goal.returns
-returns c = told_number c.table_check.ensures c.number.ensures
+returns c = c.number.ensures ∙ done_number _ c.table_check.ensures

@@ -1,9 +1,10 @@
 -- `herd::herd_walk` meets its contract.
 -- Assumes nothing.
-use Rattle.answers.proofs.Told.{told_number, told_value}
+use mathlib.Core.Path.{◌∙◌}
+use Rattle.answers.proofs.Told.{given_number, given_index}
 use Rattle.herd.proofs.herd_walk.Goals as goal
 
 pub returns : goal.returns
 returns c =
-    let walked = c.next_from-m.ensures in
-    record { answer = told_number walked.0 c.number.ensures; index = told_value walked.0 c.index.ensures; moved = walked.1 }
+    let e = c.next_from-m.ensures in
+    record { answer = c.number.ensures ∙ given_number _ e.0; index = c.index.ensures ∙ given_index _ e.0; moved = e.1 }

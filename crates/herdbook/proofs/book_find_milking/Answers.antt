@@ -1,7 +1,10 @@
 -- `herdbook::book_find_milking` meets its contract.
 -- Assumes nothing.
-use Rattle.answers.proofs.Told.{told_number, told_value}
+use mathlib.Core.Path.{◌∙◌}
+use Rattle.answers.proofs.Told.{known_number, known_index}
 use Rattle.herdbook.proofs.book_find_milking.Goals as goal
 
 pub returns : goal.returns
-returns c = record { answer = told_number c.find_milking-answer.ensures c.number.ensures; position = told_value c.find_milking-answer.ensures c.index.ensures }
+returns c =
+    let e = c.find_milking-answer.ensures in
+    record { answer = c.number.ensures ∙ known_number _ e; position = c.index.ensures ∙ known_index _ e }

@@ -1,13 +1,9 @@
 -- `layout::base` meets its contract.
 -- Assumes nothing.
+use Rattle.model.specs.Shapes.{base_in}
 use Rattle.model.specs.Layout.{base}
-use borrow.Author.Rules.{rules}
 use Rattle.layout.proofs.base.Goals as goal
 
-pub returns-then-i-lt1 : goal.returns-then-i-lt1
-unfolding base
-returns-then-i-lt1 c = search rules
-
 pub returns : goal.returns
-unfolding base
-returns c = search rules
+unfolding base_in base
+returns c = c.base_in.ensures

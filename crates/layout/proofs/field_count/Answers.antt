@@ -1,10 +1,9 @@
 -- `layout::field_count` meets its contract.
 -- Assumes nothing.
-use native.Mathlib.Omega.{arith}
-use Rattle.model.specs.Layout.{field_count}
-use Rattle.layout.proofs.Words.{word_at}
+use Rattle.model.specs.Shapes.{count_in, block_in}
+use Rattle.model.specs.Layout.{field_count, block}
 use Rattle.layout.proofs.field_count.Goals as goal
 
 pub returns : goal.returns
-unfolding field_count
-returns c = word_at _ _ _ _ (omega arith) c.block_word.ensures
+unfolding count_in field_count block_in block
+returns c = c.count_in.ensures

@@ -1,10 +1,11 @@
 -- `layout::flag_at` meets its contract.
 -- Assumes nothing.
 use native.Mathlib.Omega.{arith}
-use Rattle.model.specs.Layout.{flag_at}
+use Rattle.model.specs.Layout.{flag_at, base}
+use Rattle.model.specs.Shapes.{base_in}
 use Rattle.layout.proofs.Words.{word_at}
 use Rattle.layout.proofs.flag_at.Goals as goal
 
 pub returns : goal.returns
-unfolding flag_at
+unfolding flag_at base base_in
 returns c = word_at _ _ _ _ (omega arith) c.record_word.ensures

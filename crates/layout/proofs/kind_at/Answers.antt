@@ -1,10 +1,9 @@
 -- `layout::kind_at` meets its contract.
 -- Assumes nothing.
-use native.Mathlib.Omega.{arith}
-use Rattle.model.specs.Layout.{kind_at}
-use Rattle.layout.proofs.Words.{word_at}
+use Rattle.model.specs.Shapes.{kind_in, block_in}
+use Rattle.model.specs.Layout.{kind_at, block}
 use Rattle.layout.proofs.kind_at.Goals as goal
 
 pub returns : goal.returns
-unfolding kind_at
-returns c = word_at _ _ _ _ (omega arith) c.block_word.ensures
+unfolding kind_in kind_at block_in block
+returns c = c.kind_in.ensures

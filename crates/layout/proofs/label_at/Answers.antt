@@ -1,10 +1,9 @@
 -- `layout::label_at` meets its contract.
 -- Assumes nothing.
-use native.Mathlib.Omega.{arith}
-use Rattle.model.specs.Layout.{label_at}
-use Rattle.layout.proofs.Words.{word_at}
+use Rattle.model.specs.Shapes.{label_in, base_in}
+use Rattle.model.specs.Layout.{label_at, base}
 use Rattle.layout.proofs.label_at.Goals as goal
 
 pub returns : goal.returns
-unfolding label_at
-returns c = word_at _ _ _ _ (omega arith) c.record_word.ensures
+unfolding label_in label_at base_in base
+returns c = c.label_in.ensures

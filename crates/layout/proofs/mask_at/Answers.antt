@@ -1,10 +1,9 @@
 -- `layout::mask_at` meets its contract.
 -- Assumes nothing.
-use native.Mathlib.Omega.{arith}
-use Rattle.model.specs.Layout.{mask_at}
-use Rattle.layout.proofs.Words.{word_at}
+use Rattle.model.specs.Shapes.{mask_in, block_in}
+use Rattle.model.specs.Layout.{mask_at, block}
 use Rattle.layout.proofs.mask_at.Goals as goal
 
 pub returns : goal.returns
-unfolding mask_at
-returns c = word_at _ _ _ _ (omega arith) c.block_word.ensures
+unfolding mask_in mask_at block_in block
+returns c = c.mask_in.ensures

@@ -1,10 +1,9 @@
 -- `layout::next_at` meets its contract.
 -- Assumes nothing.
-use native.Mathlib.Omega.{arith}
-use Rattle.model.specs.Layout.{next_at}
-use Rattle.layout.proofs.Words.{word_at}
+use Rattle.model.specs.Shapes.{next_in, base_in}
+use Rattle.model.specs.Layout.{next_at, base}
 use Rattle.layout.proofs.next_at.Goals as goal
 
 pub returns : goal.returns
-unfolding next_at
-returns c = word_at _ _ _ _ (omega arith) c.record_word.ensures
+unfolding next_in next_at base_in base
+returns c = c.next_in.ensures

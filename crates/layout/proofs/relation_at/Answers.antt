@@ -1,10 +1,9 @@
 -- `layout::relation_at` meets its contract.
 -- Assumes nothing.
-use native.Mathlib.Omega.{arith}
-use Rattle.model.specs.Layout.{relation_at}
-use Rattle.layout.proofs.Words.{word_at}
+use Rattle.model.specs.Shapes.{relation_in, base_in}
+use Rattle.model.specs.Layout.{relation_at, base}
 use Rattle.layout.proofs.relation_at.Goals as goal
 
 pub returns : goal.returns
-unfolding relation_at
-returns c = word_at _ _ _ _ (omega arith) c.record_word.ensures
+unfolding relation_in relation_at base_in base
+returns c = c.relation_in.ensures

@@ -1,4 +1,3 @@
-use Prim.Native.Nat.{◌≤◌, ◌-◌}
 use mathlib.Core.Path.{◌≡◌}
 use Rattle.model.specs.Layout.{field_count, kind_at}
 use Rattle.model.specs.Lists.{listed}
@@ -8,7 +7,6 @@ use Rattle.list_conflicts.proofs.Keys.{onward}
 use Rattle.list_conflicts.proofs.equal_on.Given as goal
 
 abbrev pub invariant-loop-j : goal.invariant-loop-j
-invariant-loop-j l = (l.j ≤ l.count) × (equal_on l.mask (listed (field_count l.schema l.r) (kind_at l.schema l.r)) (registers l.a) (registers l.b) ≡ onward (kind_at l.schema l.r) (field_count l.schema l.r) l.a l.b l.m l.j)
-
-abbrev pub decreases-loop-j : goal.decreases-loop-j
-decreases-loop-j l = l.count - l.j
+invariant-loop-j l =
+    equal_on l.mask (listed (field_count l.schema l.r) (kind_at l.schema l.r)) (registers l.a) (registers l.b)
+    ≡ onward (kind_at l.schema l.r) (field_count l.schema l.r) l.a l.b l.m l.j

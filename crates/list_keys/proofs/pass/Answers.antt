@@ -1,31 +1,63 @@
 -- `list_keys::pass` meets its contract.
 -- Assumes nothing.
-use mathlib.Core.Path.{sym, ◌∙◌}
+use mathlib.Core.Path.{refl, sym, ◌∙◌}
+use mathlib.Core.Bool.{true, false}
 use native.Mathlib.Omega.{arith}
 use Rattle.references.proofs.Places.{used_most}
-use Rattle.list_keys.proofs.Bucketed.{buckets_unmarked, buckets_pass, slot_most, loses_unmarked, loses_marked}
+use Rattle.list_keys.proofs.Bucketed.{buckets_unmarked, buckets_drop, holds_linked, slot_room, loses_unmarked, loses_marked}
 use Rattle.list_keys.proofs.pass.Goals as goal
 
-pub returns-then-not-is_marked : goal.returns-then-not-is_marked
-returns-then-not-is_marked c =
+pub returns-then-not-is_marked-clause-marks : goal.returns-then-not-is_marked-clause-marks
+returns-then-not-is_marked-clause-marks c = loses_unmarked _ _ _ _ _ _ _ _ (sym c.is_marked.ensures ∙ c.if-not-is_marked.true)
+
+pub returns-then-not-is_marked-clause-first : goal.returns-then-not-is_marked-clause-first
+returns-then-not-is_marked-clause-first c =
+    let k = c.args.t.checked in
     let p = c.requires in
-    let e = sym c.is_marked.ensures ∙ c.if-not-is_marked.true in record { marks = loses_unmarked _ _ _ _ _ _ _ _ e; first = buckets_unmarked _ _ _ p.0.schema p.0.formed _ _ p.1 p.2 e _ _ p.6; second = buckets_unmarked _ _ _ p.0.schema p.0.formed _ _ p.1 p.2 e _ _ p.9 }
+    (refl, buckets_unmarked _ _ _ k.schema k.formed _ _ p.0 p.1 (sym c.is_marked.ensures ∙ c.if-not-is_marked.true) _ _ p.3)
+
+pub returns-then-not-is_marked-clause-second : goal.returns-then-not-is_marked-clause-second
+returns-then-not-is_marked-clause-second c =
+    let k = c.args.t.checked in
+    let p = c.requires in
+    (refl, buckets_unmarked _ _ _ k.schema k.formed _ _ p.0 p.1 (sym c.is_marked.ensures ∙ c.if-not-is_marked.true) _ _ p.4)
+
+pub returns-then-beaten-clause-marks : goal.returns-then-beaten-clause-marks
+returns-then-beaten-clause-marks c =
+    loses_marked _ _ _ _ _ _ _ _ (sym c.is_marked.ensures ∙ c.if-not-is_marked.false) _ _ c.is_beaten.ensures c.is_beaten-2.ensures true c.if-beaten.true
+
+pub returns-then-beaten-clause-first : goal.returns-then-beaten-clause-first
+returns-then-beaten-clause-first c =
+    let k = c.args.t.checked in
+    let p = c.requires in
+    (refl, buckets_drop _ _ _ k.schema k.formed _ _ p.0 p.1 (omega (arith, p.1, p.2)) _ refl _ _ p.3)
+
+pub returns-then-beaten-clause-second : goal.returns-then-beaten-clause-second
+returns-then-beaten-clause-second c =
+    let k = c.args.t.checked in
+    let p = c.requires in
+    (refl, buckets_drop _ _ _ k.schema k.formed _ _ p.0 p.1 (omega (arith, p.1, p.2)) _ refl _ _ p.4)
 
 pub link-requires : goal.link-requires
-link-requires c =
-    let p = c.requires in
-    (slot_most _ _ _ _ _ c.slot-b.ensures, p.4, p.1, omega (arith, p.2, p.5), omega (arith, p.2, used_most _ _ p.0))
+link-requires c = let p = c.requires in (p.0, omega (arith, p.1, used_most _ _ c.args.t.checked), slot_room _ _ _ _ _ c.slot-b.ensures)
 
 pub link-requires-2 : goal.link-requires-2
-link-requires-2 c =
-    let p = c.requires in
-    (slot_most _ _ _ _ _ c.slot-c.ensures, p.7, p.1, omega (arith, p.2, p.8), omega (arith, p.2, used_most _ _ p.0))
+link-requires-2 c = let p = c.requires in (p.0, omega (arith, p.1, used_most _ _ c.args.t.checked), slot_room _ _ _ _ _ c.slot-c.ensures)
 
-pub returns : goal.returns
-returns c =
+pub returns-clause-marks : goal.returns-clause-marks
+returns-clause-marks c =
+    loses_marked _ _ _ _ _ _ _ _ (sym c.is_marked.ensures ∙ c.if-not-is_marked.false) _ _ c.is_beaten.ensures c.is_beaten-2.ensures false c.if-beaten.false
+
+pub returns-clause-first : goal.returns-clause-first
+returns-clause-first c =
+    let k = c.args.t.checked in
     let p = c.requires in
-    let y = sym c.is_marked.ensures ∙ c.if-not-is_marked.false in
-    let z = c.is_beaten_on_either-beaten in
-    let d = c.drop_beaten.ensures in
-    let f = c.link.ensures in
-    let g = c.link-2.ensures in record { marks = loses_marked _ _ _ _ _ _ _ _ y _ z.ensures _ d; first = buckets_pass _ _ _ p.0.schema p.0.formed _ _ p.1 p.2 (omega (arith, p.2, p.3)) y _ _ p.6 _ c.slot-b.ensures p.4 (omega (arith, p.2, p.5)) z.result _ _ _ d f.0 f.1; second = buckets_pass _ _ _ p.0.schema p.0.formed _ _ p.1 p.2 (omega (arith, p.2, p.3)) y _ _ p.9 _ c.slot-c.ensures p.7 (omega (arith, p.2, p.8)) z.result _ _ _ d g.0 g.1 }
+    let n = used_most _ _ k in
+    holds_linked _ _ _ k.schema k.formed _ _ p.0 p.1 (sym c.is_marked.ensures ∙ c.if-not-is_marked.false) p.3 _ c.slot-b.ensures (omega arith) (omega arith) _ c.link.ensures
+
+pub returns-clause-second : goal.returns-clause-second
+returns-clause-second c =
+    let k = c.args.t.checked in
+    let p = c.requires in
+    let n = used_most _ _ k in
+    holds_linked _ _ _ k.schema k.formed _ _ p.0 p.1 (sym c.is_marked.ensures ∙ c.if-not-is_marked.false) p.4 _ c.slot-c.ensures (omega arith) (omega arith) _ c.link-2.ensures

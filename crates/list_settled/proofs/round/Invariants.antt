@@ -1,11 +1,6 @@
-use Prim.Native.Nat.{◌≤◌, ◌-◌}
 use mathlib.Core.Path.{◌≡◌}
-use lib.ListN.{length}
 use Rattle.list_settled.specs.Rounds.{round_of, drops_any}
 use Rattle.list_settled.proofs.round.Given as goal
 
 abbrev pub invariant-loop-i : goal.invariant-loop-i
-invariant-loop-i l = (l.i ≤ l.used) × (length l.marks ≡ length l.initial.marks) × (l.any ≡ drops_any l.refs l.initial.marks l.i) × (l.marks ≡ round_of l.refs l.initial.marks l.i)
-
-abbrev pub decreases-loop-i : goal.decreases-loop-i
-decreases-loop-i l = l.used - l.i
+invariant-loop-i l = (l.any ≡ drops_any l.refs l.initial.marks l.i) × (l.marks ≡ round_of l.refs l.initial.marks l.i)

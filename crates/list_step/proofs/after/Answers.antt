@@ -1,38 +1,44 @@
 -- `list_step::after` meets its contract.
 -- Assumes nothing.
 use mathlib.Core.Path.{sym, ◌∙◌}
-use Rattle.list_step.proofs.Cursor.{turn, turn_less, goes_past, goes_far, start_past, start_far, gives}
+use mathlib.Core.Logic.{inl, inr}
+use native.Mathlib.Omega.{arith}
+use Rattle.list_step.proofs.Cursor.{turn, turn_less, goes_past, start_past, gives_none, gives_record}
 use Rattle.list_step.proofs.after.Goals as goal
+use Rattle.list_step.proofs.after.Goals.{then-i-ne0 as along, else-i-ne0+then-r-lt-MOST_RELATIONS as over}
 
-pub next_index-i-requires : goal.next_index-i-requires
-next_index-i-requires c = let p = c.requires in (start_past _ c.args.marks.now p.0 _ p.1 _ c.relation_of-from.ensures).most
+pub loop-i-init : goal.loop-i-init
+loop-i-init c = start_past _ _ _ c.args.t.checked _ c.requires _ c.relation_of-r.ensures
 
-pub next_relation-r-requires : goal.next_relation-r-requires
-next_relation-r-requires c = let p = c.requires in (start_past _ c.args.marks.now p.0 _ p.1 _ c.relation_of-from.ensures).most
+pub returns-else-r-lt-MOST_RELATIONS : goal.returns-else-r-lt-MOST_RELATIONS
+returns-else-r-lt-MOST_RELATIONS c = gives_none _ _ _ c.args.t.checked _ c.requires _ _ c.loop-i.invariant c.if-i-ne0.false (omega arith)
 
-pub loop-n-init : goal.loop-n-init
-loop-n-init c =
-    let p = c.requires in
-    let e = c.relation_of-from.ensures in
-    turn _ _ p.0 _ _ _ (start_past _ _ p.0 _ p.1 _ e) _ _ (start_far _ c.args.marks.now p.0 _ p.1 _ e) c.next_relation-r.ensures c.next_index-i.ensures
+pub returns-then-is_marked : goal.returns-then-is_marked
+returns-then-is_marked c =
+    let k = c.args.t.checked in
+    gives_record _ _ _ k _ c.requires _ _
+    (turn _ _ _ k _ _ _ c.loop-i.invariant c.if-i-ne0.r c.if-i-ne0.i
+    (elim c.if-i-ne0.branch [
+      | along w ↦ inl (w.if-i-ne0.true, w.r-is, w.i-is ∙ w.next_at-i.ensures)
+      | over w ↦ inr (w.if-i-ne0.false, omega arith, w.r-is, w.i-is ∙ w.first_at-i.ensures)
+    ]))
+    (sym c.is_marked.ensures ∙ c.if-is_marked.true)
 
-pub next_index-n-requires : goal.next_index-n-requires
-next_index-n-requires c = c.loop-n.invariant.most
+pub loop-i-smaller : goal.loop-i-smaller
+loop-i-smaller c =
+    turn_less _ _ _ c.args.t.checked _ _ _ c.loop-i.invariant c.if-i-ne0.r c.if-i-ne0.i
+    (elim c.if-i-ne0.branch [
+      | along w ↦ inl (w.if-i-ne0.true, w.r-is, w.i-is ∙ w.next_at-i.ensures)
+      | over w ↦ inr (w.if-i-ne0.false, omega arith, w.r-is, w.i-is ∙ w.first_at-i.ensures)
+    ])
 
-pub next_relation-r-requires-in-loop-n : goal.next_relation-r-requires-in-loop-n
-next_relation-r-requires-in-loop-n c = c.loop-n.invariant.most
-
-pub loop-n-smaller : goal.loop-n-smaller
-loop-n-smaller c =
-    let p = c.requires in
-    let h = sym c.goes_on.ensures ∙ c.loop-n-test.true in
-    turn_less _ _ p.0 _ _ _ (goes_past _ _ p.0 _ _ _ c.loop-n.invariant h) _ _ (goes_far _ _ p.0 0 _ _ h) c.next_relation-r-in-loop-n.ensures c.next_index-n.ensures
-
-pub loop-n-preserved : goal.loop-n-preserved
-loop-n-preserved c =
-    let p = c.requires in
-    let h = sym c.goes_on.ensures ∙ c.loop-n-test.true in
-    turn _ _ p.0 _ _ _ (goes_past _ _ p.0 _ _ _ c.loop-n.invariant h) _ _ (goes_far _ _ p.0 0 _ _ h) c.next_relation-r-in-loop-n.ensures c.next_index-n.ensures
-
-pub returns : goal.returns
-returns c = let p = c.requires in gives _ _ p.0 _ p.1 _ _ c.loop-n.invariant (sym c.goes_on.ensures ∙ c.loop-n-test.false)
+pub loop-i-preserved : goal.loop-i-preserved
+loop-i-preserved c =
+    let k = c.args.t.checked in
+    goes_past _ _ _ k _ _ _
+    (turn _ _ _ k _ _ _ c.loop-i.invariant c.if-i-ne0.r c.if-i-ne0.i
+    (elim c.if-i-ne0.branch [
+      | along w ↦ inl (w.if-i-ne0.true, w.r-is, w.i-is ∙ w.next_at-i.ensures)
+      | over w ↦ inr (w.if-i-ne0.false, omega arith, w.r-is, w.i-is ∙ w.first_at-i.ensures)
+    ]))
+    (sym c.is_marked.ensures ∙ c.if-is_marked.false)

@@ -1,8 +1,8 @@
--- `list_text::given_after` meets its contract: the index that the answer tells.
+-- `list_text::given_after` meets its contract: the record that the answer tells.
 -- Assumes nothing.
-use mathlib.Core.Path.{◌∙◌, ap}
-use Rattle.answers.specs.Told.{Told}
+use mathlib.Core.Path.{◌∙◌}
+use Rattle.list_text.proofs.Turns.{given_is}
 use Rattle.list_text.proofs.given_after.Goals as goal
 
 pub returns : goal.returns
-returns c = c.index.ensures ∙ ap (λ (x : Told). x.value) c.next_from-m.ensures.0
+returns c = c.unwrap_or.ensures ∙ given_is _ _ _ _ _ c.next_from.ensures.0

@@ -1,27 +1,42 @@
 -- `lookup::lookup` meets its contract. Each answer is the lowest check that applies, or what the walk tells.
 -- Assumes nothing.
-use mathlib.Core.Path.{◌≡◌, sym, ◌∙◌}
-use mathlib.Core.Bool.{true, false, ◌&&◌}
-use Rattle.model.specs.Schemas.{broken}
-use Rattle.model.specs.Calls.{schema_length, table_length}
-use Rattle.lookup.proofs.Answers.{lengths_are, heads_are, relation_is, told_1, told_2, told_heads, may_seek, told_sought}
-use Rattle.std.proofs.lemmas.Bool.{not_from_false, not_from_true}
+use mathlib.Core.Path.{sym, ◌∙◌}
+use native.Mathlib.Omega.{arith}
+use Rattle.lookup.proofs.Answers.{lengths_are, heads_are, relation_is, told_1, told_2, told_3, told_5, may_seek, told_sought}
 use Rattle.lookup.proofs.lookup.Goals as goal
 
 pub returns-then-not-lengths : goal.returns-then-not-lengths
 returns-then-not-lengths c = told_1 _ _ _ _ (sym (lengths_are _ _ _ _ c.schema_length.ensures c.table_length.ensures) ∙ c.if-not-lengths.true)
 
 pub returns-then-is_broken : goal.returns-then-is_broken
-returns-then-is_broken c = told_2 _ _ _ _ (let k : (schema_length c.args.schema.now && table_length c.args.table.now) ≡ true = sym (lengths_are _ _ _ _ c.schema_length.ensures c.table_length.ensures) ∙ c.if-not-lengths.false in k) (sym c.is_broken.ensures ∙ c.if-is_broken.true)
+returns-then-is_broken c =
+    let long = sym (lengths_are _ _ _ _ c.schema_length.ensures c.table_length.ensures) ∙ c.if-not-lengths.false in
+    told_2 _ _ _ _ long (sym c.is_broken.ensures ∙ c.if-is_broken.true)
 
-pub returns-then-not-header-inside : goal.returns-then-not-header-inside
-returns-then-not-header-inside c =
-    c.refused.ensures ∙ told_heads _ _ _ _ (let k : (schema_length c.args.schema.now && table_length c.args.table.now) ≡ true = sym (lengths_are _ _ _ _ c.schema_length.ensures c.table_length.ensures) ∙ c.if-not-lengths.false in k) (let k : broken c.args.schema.now ≡ false = sym c.is_broken.ensures ∙ c.if-is_broken.false in k) _ _ (heads_are _ _ _ _ _ c.header_rules.ensures c.firsts_rule.ensures c.empty_above.ensures) (relation_is _ c.args.relation _ c.relations.ensures) (not_from_false _ c.if-not-header-inside.true)
+pub returns-then-not-header : goal.returns-then-not-header
+returns-then-not-header c =
+    let long = sym (lengths_are _ _ _ _ c.schema_length.ensures c.table_length.ensures) ∙ c.if-not-lengths.false in
+    let sound = sym c.is_broken.ensures ∙ c.if-is_broken.false in
+    told_3 _ _ _ _ long sound (sym (heads_are _ _ _ _ _ c.header_rules.ensures c.firsts_rule.ensures c.empty_above.ensures) ∙ c.if-not-header.true)
 
-pub seek-requires : goal.seek-requires
-seek-requires c =
-    may_seek _ _ c.args.relation c.args.label (let k : (schema_length c.args.schema.now && table_length c.args.table.now) ≡ true = sym (lengths_are _ _ _ _ c.schema_length.ensures c.table_length.ensures) ∙ c.if-not-lengths.false in k) (let k : broken c.args.schema.now ≡ false = sym c.is_broken.ensures ∙ c.if-is_broken.false in k) _ _ (heads_are _ _ _ _ _ c.header_rules.ensures c.firsts_rule.ensures c.empty_above.ensures) (relation_is _ c.args.relation _ c.relations.ensures) (not_from_true _ c.if-not-header-inside.false)
+pub returns-then-not-inside : goal.returns-then-not-inside
+returns-then-not-inside c =
+    let long = sym (lengths_are _ _ _ _ c.schema_length.ensures c.table_length.ensures) ∙ c.if-not-lengths.false in
+    let sound = sym c.is_broken.ensures ∙ c.if-is_broken.false in
+    let heads = sym (heads_are _ _ _ _ _ c.header_rules.ensures c.firsts_rule.ensures c.empty_above.ensures) ∙ c.if-not-header.false in
+    told_5 _ _ _ _ long sound heads (sym (relation_is _ c.args.relation _ c.relations.ensures) ∙ c.if-not-inside.true)
+
+pub invariant_of-seek : goal.invariant_of-seek
+invariant_of-seek c =
+    let long = sym (lengths_are _ _ _ _ c.schema_length.ensures c.table_length.ensures) ∙ c.if-not-lengths.false in
+    let sound = sym c.is_broken.ensures ∙ c.if-is_broken.false in
+    let heads = sym (heads_are _ _ _ _ _ c.header_rules.ensures c.firsts_rule.ensures c.empty_above.ensures) ∙ c.if-not-header.false in
+    let k = may_seek _ _ c.args.relation c.args.label long sound heads in
+    record { form = omega arith; long = k.long; related = k.related; clocked = k.clocked; stored = k.stored; few = k.few }
 
 pub returns : goal.returns
 returns c =
-    c.seek.ensures ∙ told_sought _ _ _ _ (let k : (schema_length c.args.schema.now && table_length c.args.table.now) ≡ true = sym (lengths_are _ _ _ _ c.schema_length.ensures c.table_length.ensures) ∙ c.if-not-lengths.false in k) (let k : broken c.args.schema.now ≡ false = sym c.is_broken.ensures ∙ c.if-is_broken.false in k) _ _ (heads_are _ _ _ _ _ c.header_rules.ensures c.firsts_rule.ensures c.empty_above.ensures) (relation_is _ c.args.relation _ c.relations.ensures) (not_from_true _ c.if-not-header-inside.false)
+    let long = sym (lengths_are _ _ _ _ c.schema_length.ensures c.table_length.ensures) ∙ c.if-not-lengths.false in
+    let sound = sym c.is_broken.ensures ∙ c.if-is_broken.false in
+    let heads = sym (heads_are _ _ _ _ _ c.header_rules.ensures c.firsts_rule.ensures c.empty_above.ensures) ∙ c.if-not-header.false in
+    c.seek.ensures ∙ told_sought _ _ _ _ long sound heads (sym (relation_is _ c.args.relation _ c.relations.ensures) ∙ c.if-not-inside.false)

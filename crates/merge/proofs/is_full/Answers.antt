@@ -5,7 +5,7 @@ use Rattle.merge.proofs.Answers.{merged_small, full_is}
 use Rattle.merge.proofs.is_full.Goals as goal
 
 pub overflow_add-result : goal.overflow_add-result
-overflow_add-result c = omega (arith, c.missing.ensures, c.used.ensures, merged_small _ _ c.requires.0 c.requires.1)
+overflow_add-result c = omega (arith, c.missing.ensures, c.used.ensures, merged_small _ _ c.args.own.whole c.args.other.whole)
 
 pub returns : goal.returns
 returns c = full_is _ _ _ _ _ c.capacity.ensures c.used.ensures c.missing.ensures

@@ -25,8 +25,11 @@ well_formed-requires-2 c = let l = sym (lengths_are _ _ _ _ _ _ c.schema_length.
 pub returns-then-not-well_formed-2 : goal.returns-then-not-well_formed-2
 returns-then-not-well_formed-2 c = let l = sym (lengths_are _ _ _ _ _ _ c.schema_length.ensures c.table_length.ensures c.table_length-2.ensures) ∙ c.if-not-lengths.false in let nb = sym c.is_broken.ensures ∙ c.if-is_broken.false in let wt = sym c.well_formed-2.ensures ∙ c.if-not-well_formed.false in ap (λ (n : ℕ). told n 0) (number_4 _ _ _ l nb wt (sym c.well_formed-3.ensures ∙ c.if-not-well_formed-2.true))
 
-pub is_full-requires : goal.is_full-requires
-is_full-requires c = let l = sym (lengths_are _ _ _ _ _ _ c.schema_length.ensures c.table_length.ensures c.table_length-2.ensures) ∙ c.if-not-lengths.false in let nb = sym c.is_broken.ensures ∙ c.if-is_broken.false in let wt = sym c.well_formed-2.ensures ∙ c.if-not-well_formed.false in let wb = sym c.well_formed-3.ensures ∙ c.if-not-well_formed-2.false in both_whole _ _ _ l nb wt wb
+pub invariant_of-is_full : goal.invariant_of-is_full
+invariant_of-is_full c = let l = sym (lengths_are _ _ _ _ _ _ c.schema_length.ensures c.table_length.ensures c.table_length-2.ensures) ∙ c.if-not-lengths.false in let nb = sym c.is_broken.ensures ∙ c.if-is_broken.false in let wt = sym c.well_formed-2.ensures ∙ c.if-not-well_formed.false in let wb = sym c.well_formed-3.ensures ∙ c.if-not-well_formed-2.false in record { whole = (both_whole _ _ _ l nb wt wb).0 }
+
+pub invariant_of-is_full-2 : goal.invariant_of-is_full-2
+invariant_of-is_full-2 c = let l = sym (lengths_are _ _ _ _ _ _ c.schema_length.ensures c.table_length.ensures c.table_length-2.ensures) ∙ c.if-not-lengths.false in let nb = sym c.is_broken.ensures ∙ c.if-is_broken.false in let wt = sym c.well_formed-2.ensures ∙ c.if-not-well_formed.false in let wb = sym c.well_formed-3.ensures ∙ c.if-not-well_formed-2.false in record { whole = (both_whole _ _ _ l nb wt wb).1 }
 
 pub returns-then-is_full : goal.returns-then-is_full
 returns-then-is_full c = let l = sym (lengths_are _ _ _ _ _ _ c.schema_length.ensures c.table_length.ensures c.table_length-2.ensures) ∙ c.if-not-lengths.false in let nb = sym c.is_broken.ensures ∙ c.if-is_broken.false in let wt = sym c.well_formed-2.ensures ∙ c.if-not-well_formed.false in let wb = sym c.well_formed-3.ensures ∙ c.if-not-well_formed-2.false in ap (λ (n : ℕ). told n 0) (number_11 _ _ _ l nb wt wb (sym c.is_full.ensures ∙ c.if-is_full.true))

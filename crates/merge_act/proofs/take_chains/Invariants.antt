@@ -7,7 +7,4 @@ use Rattle.merge_laws.specs.Absorb.{records_in, Taken}
 use Rattle.merge_act.proofs.take_chains.Given as goal
 
 abbrev pub invariant-loop-relation : goal.invariant-loop-relation
-invariant-loop-relation l = (length l.own ≡ length l.initial.own) × (1 ≤ l.relation) × (l.relation ≤ most_relations + 1) × Taken l.initial.own l.own (records_in l.other) (place 1 0) (place l.relation 0) l.count
-
-abbrev pub decreases-loop-relation : goal.decreases-loop-relation
-decreases-loop-relation l = most_relations + 1 - l.relation
+invariant-loop-relation l = (length l.own ≡ length l.initial.own) × Taken l.initial.own l.own (records_in l.other) (place 1 0) (place l.relation 0) l.count

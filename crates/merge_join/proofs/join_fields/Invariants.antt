@@ -6,7 +6,4 @@ use Rattle.merge_laws.specs.Absorb.{fields_joined, fields_changed}
 use Rattle.merge_join.proofs.join_fields.Given as goal
 
 abbrev pub invariant-loop-done : goal.invariant-loop-done
-invariant-loop-done l = (length l.own ≡ length l.initial.own) × (l.done ≤ fields) × (l.own ≡ fields_joined l.done l.initial.own l.i l.other l.j) × (l.changed ≡ fields_changed l.done l.initial.own l.i l.other l.j)
-
-abbrev pub decreases-loop-done : goal.decreases-loop-done
-decreases-loop-done l = fields - l.done
+invariant-loop-done l = (length l.own ≡ length l.initial.own) × (l.own ≡ fields_joined l.done l.initial.own l.i l.other l.j) × (l.changed ≡ fields_changed l.done l.initial.own l.i l.other l.j)

@@ -1,13 +1,8 @@
 -- `schema::is_broken` meets its contract.
 -- Assumes nothing.
-use Rattle.schema.proofs.Rules.{broken_low, broken_high, broken_tested}
+use mathlib.Core.Path.{◌∙◌}
+use Rattle.shape_laws.proofs.Same.{broken_same}
 use Rattle.schema.proofs.is_broken.Goals as goal
 
-pub returns-then-most-lt1 : goal.returns-then-most-lt1
-returns-then-most-lt1 c = broken_low _ _ c.relations-most.ensures c.if-most-lt1.true
-
-pub returns-then-most-gt-MOST_RELATIONS : goal.returns-then-most-gt-MOST_RELATIONS
-returns-then-most-gt-MOST_RELATIONS c = broken_high _ _ c.relations-most.ensures c.if-most-gt-MOST_RELATIONS.true
-
 pub returns : goal.returns
-returns c = broken_tested _ _ c.relations-most.ensures _ c.if-most-lt1.false c.if-most-gt-MOST_RELATIONS.false c.blocks_good.ensures
+returns c = c.is_broken_in.ensures ∙ broken_same _

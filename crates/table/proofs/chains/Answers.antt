@@ -1,6 +1,6 @@
 -- `table::chains` meets its contract.
 -- Assumes nothing.
-use Prim.Native.Nat.{◌-◌, ◌+◌}
+use Prim.Native.Nat.{◌+◌}
 use mathlib.Core.Path.{◌≡◌, sym, ◌∙◌}
 use native.Mathlib.Omega.{arith}
 use Rattle.model.specs.Layout.{most_relations}
@@ -11,26 +11,22 @@ use Rattle.table.proofs.Count.{sum_none, chains_broken, chains_more, chains_coun
 use Rattle.table.proofs.chains.Goals as goal
 
 pub loop-r-init : goal.loop-r-init
-loop-r-init c = (omega arith, omega arith, sum_none _, sym (each_none _))
+loop-r-init g c = (omega arith, sum_none _, sym (each_none _))
 
 pub returns-in_default : goal.returns-in_default
-returns-in_default c = chains_broken _ _ (c.loop-r.r + 1) (omega arith) (omega arith) (walked_broken _ _ _ (sym c.in_default.is ∙ c.walk_chain.ensures))
+returns-in_default g c = chains_broken _ _ _ (c.loop-r.r + 1) (omega arith) (omega arith) (walked_broken _ _ _ _ (sym c.in_default.is ∙ c.walk_chain.ensures))
 
 pub overflow_add-count : goal.overflow_add-count
-overflow_add-count c =
-    omega
-    (arith, walked_whole c.args.schema.now c.args.t.now (c.loop-r.r + 1) _ (sym c.in-Whole.is ∙ c.walk_chain.ensures), chain_length c.args.t.now (c.loop-r.r + 1))
+overflow_add-count g c =
+    let w = walked_whole g.row.F c.args.of.schema.now c.args.of.table.now (c.loop-r.r + 1) _ (sym c.in-Some.is ∙ c.walk_chain.ensures) in
+    omega (arith, w, chain_length g.row.F c.args.of.table.now (c.loop-r.r + 1))
 
 pub loop-r-preserved : goal.loop-r-preserved
-loop-r-preserved c =
-    let w = walked_whole c.args.schema.now c.args.t.now (c.loop-r.r + 1) _ (sym c.in-Whole.is ∙ c.walk_chain.ensures) in (
-      omega arith,
-      omega (arith, w, chain_length c.args.t.now (c.loop-r.r + 1)),
-      chains_more _ _ _ _ w.1 c.loop-r.invariant.2,
-      each_next _ _ c.loop-r.invariant.3 w.0,
-    )
+loop-r-preserved g c =
+    let w = walked_whole g.row.F c.args.of.schema.now c.args.of.table.now (c.loop-r.r + 1) _ (sym c.in-Some.is ∙ c.walk_chain.ensures) in
+    (omega (arith, w, chain_length g.row.F c.args.of.table.now (c.loop-r.r + 1)), chains_more _ _ _ _ _ w.1 c.loop-r.invariant.1, each_next _ _ c.loop-r.invariant.2 w.0)
 
 pub returns : goal.returns
-returns c =
+returns g c =
     let e : c.loop-r.r ≡ most_relations = omega arith in
-    chains_counted _ (record_good c.args.schema.now c.args.t.now) _ _ (rw e at c.loop-r.invariant.3) (rw e at c.loop-r.invariant.2) c.used.ensures
+    chains_counted _ _ (record_good g.row.F c.args.of.schema.now c.args.of.table.now) _ _ (rw e at c.loop-r.invariant.2) (rw e at c.loop-r.invariant.1) c.used.ensures

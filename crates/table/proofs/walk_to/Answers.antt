@@ -5,28 +5,22 @@ use Rattle.table.proofs.Links.{ahead_first, ahead_fuel, ahead_broken, ahead_at, 
 use Rattle.table.proofs.walk_to.Goals as goal
 
 pub loop-left-init : goal.loop-left-init
-loop-left-init c = (omega (arith, c.used-left.ensures), ahead_first _ _ _ _ _ _ c.used-left.ensures c.first_at-i.ensures)
-
-pub is_good-requires : goal.is_good-requires
-is_good-requires c = omega (arith, ahead_fuel _ _ _ _ _ _ _ _ c.loop-left.invariant.1 c.loop-left-test.true)
+loop-left-init g c = (omega (arith, c.used-left.ensures), ahead_first _ _ _ _ _ _ _ c.used-left.ensures c.first_at-i.ensures)
 
 pub returns-then-not-is_good : goal.returns-then-not-is_good
-returns-then-not-is_good c = ahead_broken _ _ _ _ _ _ _ _ c.loop-left.invariant.1 c.loop-left-test.true _ c.is_good.ensures c.if-not-is_good.true
+returns-then-not-is_good g c = ahead_broken _ _ _ _ _ _ _ _ _ c.loop-left.invariant.1 c.loop-left-test.true _ c.is_good.ensures c.if-not-is_good.true
 
 pub returns-then-label-low : goal.returns-then-label-low
-returns-then-label-low c = ahead_at _ _ _ _ _ _ _ _ c.loop-left.invariant.1 c.loop-left-test.true _ c.is_good.ensures c.if-not-is_good.false _ c.label_at-low.ensures (omega (arith, c.if-label-low.true))
-
-pub overflow_sub-left : goal.overflow_sub-left
-overflow_sub-left c = omega (arith, ahead_fuel _ _ _ _ _ _ _ _ c.loop-left.invariant.1 c.loop-left-test.true)
-
-pub loop-left-smaller : goal.loop-left-smaller
-loop-left-smaller c = omega (arith, ahead_fuel _ _ _ _ _ _ _ _ c.loop-left.invariant.1 c.loop-left-test.true)
+returns-then-label-low g c =
+    ahead_at _ _ _ _ _ _ _ _ _ c.loop-left.invariant.1 c.loop-left-test.true
+    _ c.is_good.ensures c.if-not-is_good.false _ c.label_in-low.ensures (omega (arith, c.if-label-low.true))
 
 pub loop-left-preserved : goal.loop-left-preserved
-loop-left-preserved c = (
-  omega (arith, ahead_fuel _ _ _ _ _ _ _ _ c.loop-left.invariant.1 c.loop-left-test.true),
-  ahead_next _ _ _ _ _ _ _ _ c.loop-left.invariant.1 c.loop-left-test.true _ c.is_good.ensures c.if-not-is_good.false _ c.label_at-low.ensures (omega (arith, c.if-label-low.false)) _ c.next_at-i.ensures,
+loop-left-preserved g c = (
+  omega (arith, ahead_fuel _ _ _ _ _ _ _ _ _ c.loop-left.invariant.1 c.loop-left-test.true),
+  ahead_next _ _ _ _ _ _ _ _ _ c.loop-left.invariant.1 c.loop-left-test.true
+      _ c.is_good.ensures c.if-not-is_good.false _ c.label_in-low.ensures (omega (arith, c.if-label-low.false)) _ c.next_in-i.ensures,
 )
 
 pub returns : goal.returns
-returns c = ahead_end _ _ _ _ _ _ _ _ c.loop-left.invariant.1 c.loop-left-test.false
+returns g c = ahead_end _ _ _ _ _ _ _ _ _ c.loop-left.invariant.1 c.loop-left-test.false

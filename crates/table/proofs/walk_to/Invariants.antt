@@ -5,7 +5,7 @@ use Rattle.table.proofs.Links.{Ahead}
 use Rattle.table.proofs.walk_to.Given as goal
 
 abbrev pub invariant-loop-left : goal.invariant-loop-left
-invariant-loop-left l = (l.n + l.left ≡ used_at l.t + 1) × Ahead l.schema l.t l.r l.label l.left l.low l.n l.i
+invariant-loop-left g l = (l.n + l.left ≡ used_at l.of.table.now + 1) × Ahead g.row.F l.of.schema.now l.of.table.now l.r l.label l.left l.low l.n l.i
 
 abbrev pub decreases-loop-left : goal.decreases-loop-left
-decreases-loop-left l = l.left
+decreases-loop-left g l = l.left

@@ -1,12 +1,9 @@
-use Prim.Native.Nat.{◌≤◌, ◌-◌}
+use Prim.Native.Nat.{◌-◌}
 use mathlib.Core.Path.{◌≡◌}
 use lib.Dec.{leb}
-use Rattle.model.specs.Layout.{most_relations, used_at, first_at}
+use Rattle.model.specs.Layout.{used_at, first_at}
 use Rattle.model.specs.Lists.{each}
 use Rattle.table_rules.proofs.firsts_rule.Given as goal
 
 abbrev pub invariant-loop-r : goal.invariant-loop-r
-invariant-loop-r l = (l.r ≤ most_relations) × (l.used ≡ used_at l.t) × (l.good ≡ each l.r (λ q. leb (first_at l.t q) (used_at l.t)))
-
-abbrev pub decreases-loop-r : goal.decreases-loop-r
-decreases-loop-r l = most_relations - l.r
+invariant-loop-r l = (l.used ≡ used_at l.t) × (l.good ≡ each (l.r - 1) (λ q. leb (first_at l.t q) (used_at l.t)))

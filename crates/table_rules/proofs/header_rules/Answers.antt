@@ -1,9 +1,8 @@
 -- `table_rules::header_rules` meets its contract.
 -- Assumes nothing.
-use Rattle.table_rules.proofs.Rules.{header_tested}
+use mathlib.Core.Path.{◌∙◌}
+use Rattle.shape_laws.proofs.Same.{header_same}
 use Rattle.table_rules.proofs.header_rules.Goals as goal
 
 pub returns : goal.returns
-returns c =
-    header_tested _ _ _ _ _ _ _ c.replica-replica.ensures c.clock-clock.ensures c.used.ensures c.capacity.ensures c.word-third.ensures
-    c.zero_words-zeros.ensures
+returns c = c.header_rules_in.ensures ∙ header_same _

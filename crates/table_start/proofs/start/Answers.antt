@@ -16,5 +16,5 @@ returns-then-not-replica c =
 
 pub returns : goal.returns
 returns c =
-    let p = start_done _ _ _ c.table_length.ensures _ _ c.if-not-table_length.false c.if-not-replica.false c.zero.ensures c.store.ensures in
+    let p = start_done _ _ _ c.table_length.ensures _ _ c.if-not-table_length.false c.if-not-replica.false (c.fill.ensures.after (λ y e. e)) c.store.ensures in
     record { answer = ap (λ (n : ℕ). told n 0) p.0; words = p.1 }

@@ -40,4 +40,8 @@ pub returns : goal.returns
 returns c =
     let e : c.base-at.result + head_words ≡ base c.args.index + head_words = omega (arith, c.base-at.ensures) in
     let x = c.table_length.ensures in
-    let y = c.if-not-table_length.false in record { words = part_at _ _ _ _ e ∙ values_given _ _ _ x _ y c.bad_index.ensures c.if-bad_index.false; part = (refl, omega (arith, e, first_given _ _ _ x _ y c.bad_index.ensures c.if-bad_index.false)) }
+    let y = c.if-not-table_length.false in
+    record {
+      words = part_at _ _ _ _ e ∙ values_given _ _ _ x _ y c.bad_index.ensures c.if-bad_index.false;
+      part = (refl, omega (arith, e, first_given _ _ _ x _ y c.bad_index.ensures c.if-bad_index.false));
+    }

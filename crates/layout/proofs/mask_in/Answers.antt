@@ -1,0 +1,10 @@
+-- `layout::mask_in` meets its contract.
+-- Assumes nothing.
+use native.Mathlib.Omega.{arith}
+use Rattle.model.specs.Shapes.{mask_in}
+use Rattle.layout.proofs.Words.{word_at}
+use Rattle.layout.proofs.mask_in.Goals as goal
+
+pub returns : goal.returns
+unfolding mask_in
+returns g c = word_at _ _ _ _ (omega arith) c.block_word.ensures

@@ -1,0 +1,10 @@
+-- `layout::next_in` meets its contract.
+-- Assumes nothing.
+use native.Mathlib.Omega.{arith}
+use Rattle.model.specs.Shapes.{next_in}
+use Rattle.layout.proofs.Words.{word_at}
+use Rattle.layout.proofs.next_in.Goals as goal
+
+pub returns : goal.returns
+unfolding next_in
+returns g c = word_at _ _ _ _ (omega arith) c.record_word.ensures

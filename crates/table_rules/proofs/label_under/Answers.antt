@@ -1,7 +1,0 @@
--- `table_rules::label_under` meets its contract.
--- Assumes nothing.
-use Rattle.table_rules.proofs.Rows.{label_under_lem}
-use Rattle.table_rules.proofs.label_under.Goals as goal
-
-pub returns : goal.returns
-returns c = label_under_lem _ _ _ _ c.requires c.counter-counter.ensures c.replica.ensures
