@@ -160,7 +160,7 @@ pub static SCHEMA: Schema = SchemaBuilder::new()
 
 /// The stack that a call of the static library `herdbook` needs at most, in bytes, as `tools/stack`
 /// measures it.
-pub const STACK: usize = 153088;
+pub const STACK: usize = 153280;
 
 /// The word of a reference.
 fn word(reference: Option<Label>) -> u64 {
