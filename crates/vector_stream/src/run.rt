@@ -45,13 +45,13 @@ fn read_all<R: Input + Print, C: Calls>(
     let mut values = [0u64; stream::VALUES];
     let n = codec::read_full(&mut rt.reader(), &mut bytes[..])?;
     let from = Stream { rest: &bytes[..n] };
-    let buffers = Buffers {
+    let mut buffers = Buffers {
         schema: &mut schema,
         own,
         third,
         values: &mut values,
     };
-    run_all(rt, calls, from, buffers)
+    run_all(rt, calls, from, &mut buffers)
 }
 
 // Runs every item. An item has at least two bytes, so that a broken stream ends too.
@@ -59,14 +59,8 @@ fn run_all<P: Print, C: Calls>(
     rt: &P,
     calls: &mut C,
     from: Stream<'_>,
-    buffers: Buffers<'_>,
+    buffers: &mut Buffers<'_>,
 ) -> io::Result<()> {
-    let Buffers {
-        schema,
-        own,
-        third,
-        values,
-    } = buffers;
     let mut rows = [0u64; rows::WORDS];
     let mut tally = Tally::new();
     let mut s = from;
@@ -81,51 +75,64 @@ fn run_all<P: Print, C: Calls>(
     for _ in 0..count {
         let category = s.byte();
         let call = s.byte();
-        let row = rows::row(&rows, call);
-        let takes = calls.takes_slices(call);
-        let schema = lend(
-            takes & (row[rows::SCHEMA] != 0),
-            &mut s,
-            &mut *schema,
-            &mut tally.taken,
-        );
-        let own_from = s;
-        let own = lend(
-            takes & (row[rows::OWN] != 0),
-            &mut s,
-            &mut *own,
-            &mut tally.taken,
-        );
-        let third_from = s;
-        let third = lend(
-            takes & (row[rows::THIRD] != 0),
-            &mut s,
-            &mut *third,
-            &mut tally.taken,
-        );
-        let values = lend(
-            takes & (row[rows::VALUES] != 0),
-            &mut s,
-            &mut *values,
-            &mut tally.taken,
-        );
-        let item = Item {
-            told: s,
-            own: own_from,
-            third: third_from,
-        };
-        let mut slices = Slices {
-            schema,
-            own,
-            third,
-            values,
-        };
-        let back = calls.run(call, item, &mut slices);
+        let back = run_item(calls, call, &rows, s, buffers, &mut tally.taken);
         s = back.item.told;
         tally.count(rt, category, call, back.answer, back.good)?;
     }
     report::report(rt, &rows, &tally)?;
     Ok(())
+}
+
+// Lends an item its slices, those that the call's row names, and runs it.
+fn run_item<'a, C: Calls>(
+    calls: &mut C,
+    call: u8,
+    rows: &[u64; rows::WORDS],
+    from: Stream<'a>,
+    buffers: &mut Buffers<'_>,
+    taken: &mut Taken,
+) -> Back<'a> {
+    let row = rows::row(rows, call);
+    let takes = calls.takes_slices(call);
+    let mut told = from;
+    let schema = lend(
+        takes & (row[rows::SCHEMA] != 0),
+        &mut told,
+        &mut *buffers.schema,
+        taken,
+    );
+    let own_from = told;
+    let own = lend(
+        takes & (row[rows::OWN] != 0),
+        &mut told,
+        &mut *buffers.own,
+        taken,
+    );
+    let third_from = told;
+    let third = lend(
+        takes & (row[rows::THIRD] != 0),
+        &mut told,
+        &mut *buffers.third,
+        taken,
+    );
+    let values = lend(
+        takes & (row[rows::VALUES] != 0),
+        &mut told,
+        &mut *buffers.values,
+        taken,
+    );
+    let item = Item {
+        told,
+        own: own_from,
+        third: third_from,
+    };
+    let mut slices = Slices {
+        schema,
+        own,
+        third,
+        values,
+    };
+    calls.run(call, item, &mut slices)
 }
 
 // The next slice in its buffer. Of a slice that the call's row does not name nothing is taken, and the next number is its length.
