@@ -1,6 +1,7 @@
 // The run of a program: the whole stream is read, its items are run one after the other, and the counts are printed.
 
 use crate::items::{Back, Item, Lent, Slices};
+use crate::rows::{OWN, SCHEMA, THIRD, VALUES};
 use crate::stream::{Stream, Taken};
 use crate::tally::Tally;
 use crate::{report, rows, stream};
@@ -94,35 +95,15 @@ fn run_item<'a, C: Calls>(
 ) -> Back<'a> {
     let row = rows::row(rows, call);
     let takes = calls.takes_slices(call);
-    let mut told = from;
-    let schema = lend(
-        takes & (row[rows::SCHEMA] != 0),
-        &mut told,
-        &mut *buffers.schema,
-        taken,
-    );
-    let own_from = told;
-    let own = lend(
-        takes & (row[rows::OWN] != 0),
-        &mut told,
-        &mut *buffers.own,
-        taken,
-    );
-    let third_from = told;
-    let third = lend(
-        takes & (row[rows::THIRD] != 0),
-        &mut told,
-        &mut *buffers.third,
-        taken,
-    );
-    let values = lend(
-        takes & (row[rows::VALUES] != 0),
-        &mut told,
-        &mut *buffers.values,
-        taken,
-    );
+    let mut s = from;
+    let schema = lend(takes & (row[SCHEMA] != 0), &mut s, buffers.schema, taken);
+    let own_from = s;
+    let own = lend(takes & (row[OWN] != 0), &mut s, buffers.own, taken);
+    let third_from = s;
+    let third = lend(takes & (row[THIRD] != 0), &mut s, buffers.third, taken);
+    let values = lend(takes & (row[VALUES] != 0), &mut s, buffers.values, taken);
     let item = Item {
-        told,
+        told: s,
         own: own_from,
         third: third_from,
     };
