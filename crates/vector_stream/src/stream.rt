@@ -1,6 +1,6 @@
 // The stream's numbers and slices. Every function is total: past the end stand zeros. What is still to be read never grows.
-ghost use Rattle.std.specs.Prelude.{◌≡◌, ◌≤◌, length, drop};
-ghost use Rattle.vector_stream.specs.Stream.{nth, digested};
+ghost use Rattle.std.specs.Prelude.{◌≡◌, ◌+◌, ◌%◌, ◌≤◌, length, min, drop};
+ghost use Rattle.vector_stream.specs.Stream.{nth, number_of, behind, digested};
 
 // The bytes of a stream, and the words of a table, of a schema and of an insertion's values that the buffers hold. The longest
 // tables of the stream are some records too long.
@@ -33,7 +33,10 @@ pub struct Taken {
 }
 
 impl Taken {
-    fn add(&mut self, word: u64) {
+    fn add(&mut self, word: u64)
+        ensures words { self.new.words ≡ self.old.words % 4294967296 + 1 }
+        ensures sum { self.new.digest ≡ digested self.old.digest word }
+    {
         self.words = self.words % 4294967296 + 1;
         self.digest = digest(self.digest, word);
     }
@@ -61,7 +64,9 @@ impl<'a> Stream<'a> {
 
     // The next number. It has its most significant seven bits first; every byte but its last is 128 or more.
     pub fn number(&mut self) -> u64
-        ensures { length self.new.rest.now ≤ length self.old.rest.now }
+        ensures value { result ≡ number_of self.old.rest.now }
+        ensures behind { self.new.rest.now ≡ behind self.old.rest.now }
+        ensures rest { length self.new.rest.now ≤ length self.old.rest.now }
     {
         let mut value: u64 = 0;
         while let Some((first, rest)) = self.rest.split_first() {
@@ -76,23 +81,29 @@ impl<'a> Stream<'a> {
 
     // Takes the next slice into the buffer, as far as it has room; how many words they are.
     pub fn load(&mut self, buffer: &mut [u64], taken: &mut Taken) -> usize
-        ensures { result ≤ length buffer.new }
+        ensures count { result ≡ min (number_of self.old.rest.now) (length buffer.new) }
+        ensures within { result ≤ length buffer.new }
+        ensures rest { length self.new.rest.now ≤ length self.old.rest.now }
     {
         let n = (self.number() as usize).min(buffer.len());
         let mut words = Words {
             stream: *self,
             zeros: 0,
         };
+        let mut all = *taken;
         for to in buffer[..n].iter_mut() {
             *to = words.next();
-            taken.add(*to);
+            all.add(*to);
         }
+        *taken = all;
         *self = words.stream;
         n
     }
 
     // Whether the buffer begins with the next slice, as far as it has room.
-    pub(crate) fn same(&mut self, buffer: &[u64]) -> bool {
+    pub(crate) fn same(&mut self, buffer: &[u64]) -> bool
+        ensures { length self.new.rest.now ≤ length self.old.rest.now }
+    {
         let n = (self.number() as usize).min(buffer.len());
         let mut words = Words {
             stream: *self,
@@ -115,7 +126,9 @@ struct Words<'a> {
 }
 
 impl<'a> Words<'a> {
-    fn next(&mut self) -> u64 {
+    fn next(&mut self) -> u64
+        ensures { length self.new.stream.rest.now ≤ length self.old.stream.rest.now }
+    {
         if 0 < self.zeros {
             self.zeros -= 1;
             return 0;

@@ -1,5 +1,5 @@
 // The counts: for each category, for each answer of each call, of the items and of the mismatches.
-ghost use Rattle.std.specs.Prelude.{◌≡◌, false, OnErr};
+ghost use Rattle.std.specs.Prelude.{◌≡◌, ◌+◌, false, min, OnErr};
 
 use crate::stream::Taken;
 use std::io;
@@ -23,7 +23,9 @@ pub struct Tally {
 }
 
 impl Tally {
-    pub(crate) fn new() -> Tally {
+    pub(crate) fn new() -> Tally
+        ensures { (result.items ≡ 0) × ((result.taken.words ≡ 0) × ((result.taken.digest ≡ 0) × (result.mismatches ≡ 0))) }
+    {
         Tally {
             categories: [0; CATEGORIES],
             answers: [[0; ANSWERS_OF_CALL]; CALLS],
@@ -46,7 +48,9 @@ impl Tally {
         answer: u64,
         good: bool,
     ) -> io::Result<()>
-        ensures { OnErr result (good ≡ false) }
+        ensures items { self.new.items ≡ min (self.old.items + 1) 18446744073709551615 }
+        ensures taken { self.new.taken ≡ self.old.taken }
+        ensures failed { OnErr result (good ≡ false) }
     {
         add(&mut self.categories[usize::from(category)]);
         add(&mut self.answers[usize::from(call)][(answer % ANSWERS_OF_CALL as u64) as usize]);

@@ -1,5 +1,7 @@
 // One function for each call: it takes the numbers of an item, makes the call on its slices and compares. The number of a kind
 // tells which of the six kinds' calls is made; a number that is no kind is a mismatch.
+ghost use Rattle.std.specs.Prelude.{◌≤◌, length};
+
 use answers::Refusal;
 use vector_stream::items::{Back, Item, Lent, Slices};
 use vector_stream::run::Calls;
@@ -26,7 +28,9 @@ impl Calls for Book {
 }
 
 // The next number as a kind's.
-fn kind_of(item: &mut Item<'_>) -> Option<usize> {
+fn kind_of(item: &mut Item<'_>) -> Option<usize>
+    ensures { length item.new.told.rest.now ≤ length item.old.told.rest.now }
+{
     let kind = item.number();
     ((1 <= kind) & (kind <= KINDS)).then_some(kind as usize)
 }
@@ -36,7 +40,9 @@ fn enter<'a>(
     own: &mut Lent<'_>,
     delta: &mut Lent<'_>,
     values: &Lent<'_>,
-) -> Back<'a> {
+) -> Back<'a>
+    ensures { length result.item.told.rest.now ≤ length from.entry.told.rest.now }
+{
     let mut item = from;
     let Some(kind) = kind_of(&mut item) else {
         return from.unknown();
@@ -76,7 +82,9 @@ fn enter_kind(
     }
 }
 
-fn change<'a>(from: Item<'a>, own: &mut Lent<'_>, delta: &mut Lent<'_>) -> Back<'a> {
+fn change<'a>(from: Item<'a>, own: &mut Lent<'_>, delta: &mut Lent<'_>) -> Back<'a>
+    ensures { length result.item.told.rest.now ≤ length from.entry.told.rest.now }
+{
     let mut item = from;
     let Some(kind) = kind_of(&mut item) else {
         return from.unknown();
@@ -95,7 +103,9 @@ fn change<'a>(from: Item<'a>, own: &mut Lent<'_>, delta: &mut Lent<'_>) -> Back<
     item.answered(answers::number(got)).own(own).third(delta)
 }
 
-fn strike<'a>(from: Item<'a>, own: &mut Lent<'_>, delta: &mut Lent<'_>) -> Back<'a> {
+fn strike<'a>(from: Item<'a>, own: &mut Lent<'_>, delta: &mut Lent<'_>) -> Back<'a>
+    ensures { length result.item.told.rest.now ≤ length from.entry.told.rest.now }
+{
     let mut item = from;
     let Some(kind) = kind_of(&mut item) else {
         return from.unknown();
@@ -105,7 +115,9 @@ fn strike<'a>(from: Item<'a>, own: &mut Lent<'_>, delta: &mut Lent<'_>) -> Back<
     item.answered(answers::number(got)).own(own).third(delta)
 }
 
-fn find<'a>(from: Item<'a>, own: &[u64]) -> Back<'a> {
+fn find<'a>(from: Item<'a>, own: &[u64]) -> Back<'a>
+    ensures { length result.item.told.rest.now ≤ length from.entry.told.rest.now }
+{
     let mut item = from;
     let label = item.number();
     let got = book_find::find_milking(own, label);

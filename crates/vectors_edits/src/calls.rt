@@ -1,4 +1,6 @@
 // One function for each call: it takes the numbers of an item, makes the call on its slices and compares.
+ghost use Rattle.std.specs.Prelude.{◌≤◌, length};
+
 use vector_stream::items::{Back, Item, Lent, Slices};
 use vector_stream::run::Calls;
 
@@ -11,17 +13,16 @@ impl Calls for Edits {
     }
 
     fn run<'a>(&mut self, call: u8, item: Item<'a>, lent: &mut Slices<'_>) -> Back<'a> {
-        let schema = lent.schema.words();
         match call {
             11 => insertion(
                 item,
-                schema,
+                lent.schema.words(),
                 &mut lent.own,
                 &mut lent.third,
                 lent.values.words(),
             ),
-            12 => update(item, schema, &mut lent.own, &mut lent.third),
-            13 => deletion(item, schema, &mut lent.own, &mut lent.third),
+            12 => update(item, lent.schema.words(), &mut lent.own, &mut lent.third),
+            13 => deletion(item, lent.schema.words(), &mut lent.own, &mut lent.third),
             _ => item.unknown(),
         }
     }
@@ -33,7 +34,9 @@ fn insertion<'a>(
     own: &mut Lent<'_>,
     delta: &mut Lent<'_>,
     values: &[u64],
-) -> Back<'a> {
+) -> Back<'a>
+    ensures { length result.item.told.rest.now ≤ length from.entry.told.rest.now }
+{
     let mut item = from;
     let relation = item.number() as usize;
     let got = edits::insertion(schema, own.words_mut(), delta.words_mut(), relation, values);
@@ -43,12 +46,9 @@ fn insertion<'a>(
         .third(delta)
 }
 
-fn update<'a>(
-    from: Item<'a>,
-    schema: &[u64],
-    own: &mut Lent<'_>,
-    delta: &mut Lent<'_>,
-) -> Back<'a> {
+fn update<'a>(from: Item<'a>, schema: &[u64], own: &mut Lent<'_>, delta: &mut Lent<'_>) -> Back<'a>
+    ensures { length result.item.told.rest.now ≤ length from.entry.told.rest.now }
+{
     let mut item = from;
     let index = item.number() as usize;
     let field = item.number() as usize;
@@ -69,7 +69,9 @@ fn deletion<'a>(
     schema: &[u64],
     own: &mut Lent<'_>,
     delta: &mut Lent<'_>,
-) -> Back<'a> {
+) -> Back<'a>
+    ensures { length result.item.told.rest.now ≤ length from.entry.told.rest.now }
+{
     let mut item = from;
     let index = item.number() as usize;
     let got = edits::deletion(schema, own.words_mut(), delta.words_mut(), index);

@@ -1,5 +1,5 @@
 // One function for each call over a fleet: it takes the numbers of an item, makes the call on the fleet's slots and compares.
-ghost use Rattle.std.specs.Prelude.{◌<◌};
+ghost use Rattle.std.specs.Prelude.{◌<◌, ◌≤◌, length};
 
 use crate::slots::{Fleet, Held, MOST_MARKS, SLOTS};
 use list_walk::Place;
@@ -12,6 +12,10 @@ impl Calls for Fleet {
     }
 
     fn run<'a>(&mut self, call: u8, item: Item<'a>, lent: &mut Slices<'_>) -> Back<'a> {
+        // The calls under the fleet's schema leave it in the buffer of the lent one, where a begin that is lent none finds it.
+        if (21..=26).contains(&call) {
+            self.schema.fetch(lent.schema.buffer);
+        }
         match call {
             16 => begin(item, self, lent.schema.words()),
             17 => start(item, self),
@@ -31,7 +35,8 @@ impl Calls for Fleet {
 
 // The next number as a slot's.
 fn slot_of(item: &mut Item<'_>) -> usize
-    ensures { result < 8 }
+    ensures slot { result < 8 }
+    ensures rest { length item.new.told.rest.now ≤ length item.old.told.rest.now }
 {
     (item.number() % SLOTS as u64) as usize
 }
@@ -42,12 +47,16 @@ fn words_of(capacity: u64) -> usize {
 }
 
 // How many records a slot of this many words has.
-fn capacity(words: usize) -> usize {
+fn capacity(words: usize) -> usize
+    ensures { result ≤ 24 }
+{
     (words.saturating_sub(layout::HEADER_WORDS) / layout::RECORD_WORDS).min(MOST_MARKS)
 }
 
 // An empty fleet with this schema, and the capacities of its five tables.
-fn begin<'a>(from: Item<'a>, fleet: &mut Fleet, schema: &[u64]) -> Back<'a> {
+fn begin<'a>(from: Item<'a>, fleet: &mut Fleet, schema: &[u64]) -> Back<'a>
+    ensures { length result.item.told.rest.now ≤ length from.entry.told.rest.now }
+{
     let mut item = from;
     *fleet = Fleet::new();
     fleet.schema.put(schema);
@@ -59,7 +68,9 @@ fn begin<'a>(from: Item<'a>, fleet: &mut Fleet, schema: &[u64]) -> Back<'a> {
     item.answered(0).result(fleet.digest())
 }
 
-fn start<'a>(from: Item<'a>, fleet: &mut Fleet) -> Back<'a> {
+fn start<'a>(from: Item<'a>, fleet: &mut Fleet) -> Back<'a>
+    ensures { length result.item.told.rest.now ≤ length from.entry.told.rest.now }
+{
     let mut item = from;
     let slot = slot_of(&mut item);
     let replica = item.number();
@@ -67,7 +78,9 @@ fn start<'a>(from: Item<'a>, fleet: &mut Fleet) -> Back<'a> {
     item.answered(answers::number(got)).result(fleet.digest())
 }
 
-fn copy<'a>(from: Item<'a>, fleet: &mut Fleet) -> Back<'a> {
+fn copy<'a>(from: Item<'a>, fleet: &mut Fleet) -> Back<'a>
+    ensures { length result.item.told.rest.now ≤ length from.entry.told.rest.now }
+{
     let mut item = from;
     let slot = slot_of(&mut item);
     let to = slot_of(&mut item);
@@ -75,7 +88,9 @@ fn copy<'a>(from: Item<'a>, fleet: &mut Fleet) -> Back<'a> {
     item.answered(0).result(fleet.digest())
 }
 
-fn copy_delta<'a>(from: Item<'a>, fleet: &mut Fleet) -> Back<'a> {
+fn copy_delta<'a>(from: Item<'a>, fleet: &mut Fleet) -> Back<'a>
+    ensures { length result.item.told.rest.now ≤ length from.entry.told.rest.now }
+{
     let mut item = from;
     let slot = slot_of(&mut item);
     let Fleet { slots, delta, .. } = fleet;
@@ -83,7 +98,9 @@ fn copy_delta<'a>(from: Item<'a>, fleet: &mut Fleet) -> Back<'a> {
     item.answered(0).result(fleet.digest())
 }
 
-fn spoil<'a>(from: Item<'a>, fleet: &mut Fleet) -> Back<'a> {
+fn spoil<'a>(from: Item<'a>, fleet: &mut Fleet) -> Back<'a>
+    ensures { length result.item.told.rest.now ≤ length from.entry.told.rest.now }
+{
     let mut item = from;
     let slot = slot_of(&mut item);
     let index = item.number() as usize;
@@ -95,7 +112,9 @@ fn spoil<'a>(from: Item<'a>, fleet: &mut Fleet) -> Back<'a> {
 }
 
 // A copy of the second slot is merged into the first.
-fn merge<'a>(from: Item<'a>, fleet: &mut Fleet) -> Back<'a> {
+fn merge<'a>(from: Item<'a>, fleet: &mut Fleet) -> Back<'a>
+    ensures { length result.item.told.rest.now ≤ length from.entry.told.rest.now }
+{
     let mut item = from;
     let slot = slot_of(&mut item);
     let other = fleet.slots[slot_of(&mut item)];
@@ -106,7 +125,9 @@ fn merge<'a>(from: Item<'a>, fleet: &mut Fleet) -> Back<'a> {
         .result(fleet.digest())
 }
 
-fn insertion<'a>(from: Item<'a>, fleet: &mut Fleet, values: &[u64]) -> Back<'a> {
+fn insertion<'a>(from: Item<'a>, fleet: &mut Fleet, values: &[u64]) -> Back<'a>
+    ensures { length result.item.told.rest.now ≤ length from.entry.told.rest.now }
+{
     let mut item = from;
     let slot = slot_of(&mut item);
     let relation = item.number() as usize;
@@ -123,7 +144,9 @@ fn insertion<'a>(from: Item<'a>, fleet: &mut Fleet, values: &[u64]) -> Back<'a> 
         .result(fleet.digest())
 }
 
-fn update<'a>(from: Item<'a>, fleet: &mut Fleet) -> Back<'a> {
+fn update<'a>(from: Item<'a>, fleet: &mut Fleet) -> Back<'a>
+    ensures { length result.item.told.rest.now ≤ length from.entry.told.rest.now }
+{
     let mut item = from;
     let slot = slot_of(&mut item);
     let index = item.number() as usize;
@@ -140,7 +163,9 @@ fn update<'a>(from: Item<'a>, fleet: &mut Fleet) -> Back<'a> {
     item.answered(answers::number(got)).result(fleet.digest())
 }
 
-fn deletion<'a>(from: Item<'a>, fleet: &mut Fleet) -> Back<'a> {
+fn deletion<'a>(from: Item<'a>, fleet: &mut Fleet) -> Back<'a>
+    ensures { length result.item.told.rest.now ≤ length from.entry.told.rest.now }
+{
     let mut item = from;
     let slot = slot_of(&mut item);
     let index = item.number() as usize;
@@ -156,7 +181,9 @@ fn deletion<'a>(from: Item<'a>, fleet: &mut Fleet) -> Back<'a> {
 }
 
 // Marks over as many zeros as the slot has records; they stay.
-fn marks<'a>(from: Item<'a>, fleet: &mut Fleet) -> Back<'a> {
+fn marks<'a>(from: Item<'a>, fleet: &mut Fleet) -> Back<'a>
+    ensures { length result.item.told.rest.now ≤ length from.entry.told.rest.now }
+{
     let mut item = from;
     let slot = slot_of(&mut item);
     let own = fleet.slots[slot];
@@ -172,7 +199,9 @@ fn marks<'a>(from: Item<'a>, fleet: &mut Fleet) -> Back<'a> {
 }
 
 // A walk over the marks that stay.
-fn walk<'a>(from: Item<'a>, fleet: &Fleet) -> Back<'a> {
+fn walk<'a>(from: Item<'a>, fleet: &Fleet) -> Back<'a>
+    ensures { length result.item.told.rest.now ≤ length from.entry.told.rest.now }
+{
     let mut item = from;
     let slot = slot_of(&mut item);
     let mut place = Place {

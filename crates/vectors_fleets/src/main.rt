@@ -8,5 +8,6 @@ use std::io;
 use vector_stream::run;
 
 fn main(rt: HostRuntime) -> io::Result<()> {
-    run::run_stream(&rt, &mut slots::Fleet::new())
+    run::run_stream(&rt, &mut slots::Fleet::new())?;
+    Ok(())
 }

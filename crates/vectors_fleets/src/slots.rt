@@ -34,6 +34,13 @@ impl<T: Copy, const N: usize> Held<T, N> {
             *to = *x;
         }
     }
+
+    // Puts what is held at the beginning of a buffer.
+    pub fn fetch(&self, buffer: &mut [T]) {
+        for (to, x) in buffer.iter_mut().zip(self.all()) {
+            *to = *x;
+        }
+    }
 }
 
 pub type Slot = Held<u64, SLOT_WORDS>;

@@ -1,5 +1,7 @@
 // One function for each call: it takes the numbers of an item, makes the call on its slices and compares. The third slice has a
 // word for each mark.
+ghost use Rattle.std.specs.Prelude.{◌≡◌, ◌≤◌, length};
+
 use list_walk::Place;
 use vector_stream::items::{Back, Item, Lent, Slices};
 use vector_stream::run::Calls;
@@ -16,31 +18,40 @@ impl Calls for Lists {
     }
 
     fn run<'a>(&mut self, call: u8, item: Item<'a>, lent: &mut Slices<'_>) -> Back<'a> {
-        let schema = lent.schema.words();
-        let own = lent.own.words();
         match call {
-            14 => marks(item, schema, own, &mut lent.third),
-            15 => walk(item, schema, own, lent.third.words()),
+            14 => marks(item, lent.schema.words(), lent.own.words(), &mut lent.third),
+            15 => walk(
+                item,
+                lent.schema.words(),
+                lent.own.words(),
+                lent.third.words(),
+            ),
             _ => item.unknown(),
         }
     }
 }
 
 // Puts marks, which the stream holds as words, into bytes.
-fn to_bytes(words: &[u64], bytes: &mut [u8]) {
+fn to_bytes(words: &[u64], bytes: &mut [u8])
+    ensures { length bytes.new ≡ length bytes.old }
+{
     for (byte, word) in bytes.iter_mut().zip(words) {
         *byte = (*word % 256) as u8;
     }
 }
 
 // Puts marks back into words.
-fn to_words(bytes: &[u8], words: &mut [u64]) {
+fn to_words(bytes: &[u8], words: &mut [u64])
+    ensures { length words.new ≡ length words.old }
+{
     for (word, byte) in words.iter_mut().zip(bytes) {
         *word = u64::from(*byte);
     }
 }
 
-fn marks<'a>(item: Item<'a>, schema: &[u64], own: &[u64], third: &mut Lent<'_>) -> Back<'a> {
+fn marks<'a>(item: Item<'a>, schema: &[u64], own: &[u64], third: &mut Lent<'_>) -> Back<'a>
+    ensures { length result.item.told.rest.now ≤ length item.entry.told.rest.now }
+{
     let mut held = [0u8; MOST_MARKS];
     let words = third.words_mut();
     let bytes = &mut held[..words.len().min(MOST_MARKS)];
@@ -52,7 +63,9 @@ fn marks<'a>(item: Item<'a>, schema: &[u64], own: &[u64], third: &mut Lent<'_>) 
         .third(third)
 }
 
-fn walk<'a>(from: Item<'a>, schema: &[u64], own: &[u64], words: &[u64]) -> Back<'a> {
+fn walk<'a>(from: Item<'a>, schema: &[u64], own: &[u64], words: &[u64]) -> Back<'a>
+    ensures { length result.item.told.rest.now ≤ length from.entry.told.rest.now }
+{
     let mut item = from;
     let mut held = [0u8; MOST_MARKS];
     let bytes = &mut held[..words.len().min(MOST_MARKS)];

@@ -1,4 +1,6 @@
 // Both calls turn a schema and a table: the call is made on an item's slices, and what comes back is compared.
+ghost use Rattle.std.specs.Prelude.{◌≤◌, length};
+
 use answers::Refusal;
 use vector_stream::items::{Back, Item, Lent, Slices};
 use vector_stream::run::Calls;
@@ -13,11 +15,21 @@ impl Calls for Shapes {
     }
 
     fn run<'a>(&mut self, call: u8, item: Item<'a>, lent: &mut Slices<'_>) -> Back<'a> {
-        let schemas = lent.schema.words();
-        let own = lent.own.words();
         match call {
-            33 => turn(item, schemas, own, &mut lent.third, shapes::widen),
-            34 => turn(item, schemas, own, &mut lent.third, shapes::narrow),
+            33 => turn(
+                item,
+                lent.schema.words(),
+                lent.own.words(),
+                &mut lent.third,
+                shapes::widen,
+            ),
+            34 => turn(
+                item,
+                lent.schema.words(),
+                lent.own.words(),
+                &mut lent.third,
+                shapes::narrow,
+            ),
             _ => item.unknown(),
         }
     }
@@ -32,6 +44,7 @@ fn turn<'a, F: FnOnce(&[u64], &[u64], &mut [u64], &mut [u64]) -> Result<(), Refu
     call: F,
 ) -> Back<'a>
     requires { F.IsAlwaysCallable call }
+    ensures { length result.item.told.rest.now ≤ length from.entry.told.rest.now }
 {
     let mut item = from;
     let mut held = [0u64; stream::SCHEMA_WORDS];

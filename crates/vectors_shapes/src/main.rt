@@ -7,5 +7,6 @@ use std::io;
 use vector_stream::run;
 
 fn main(rt: HostRuntime) -> io::Result<()> {
-    run::run_stream(&rt, &mut calls::Shapes)
+    run::run_stream(&rt, &mut calls::Shapes)?;
+    Ok(())
 }

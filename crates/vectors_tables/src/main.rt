@@ -7,5 +7,6 @@ use std::io;
 use vector_stream::run;
 
 fn main(rt: HostRuntime) -> io::Result<()> {
-    run::run_stream(&rt, &mut calls::Tables)
+    run::run_stream(&rt, &mut calls::Tables)?;
+    Ok(())
 }
