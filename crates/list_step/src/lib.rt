@@ -24,7 +24,7 @@ fn relation_of(table: &[u64], place: usize) -> usize
 }
 
 // The next marked record after a place, none after the last: along the chains of the relations, one after the other.
-fn after(t: Judged<'_>, marks: &[u8], place: usize) -> Option<usize>
+pub fn after(t: Judged<'_>, marks: &[u8], place: usize) -> Option<usize>
     requires { place ≤ used_at t.table.now }
     ensures { result ≡ given (position (least_above (place_key (decode t.entry.table.now) place) (marked marks.now (decode t.entry.table.now).records)) (decode t.entry.table.now).records) }
 {
@@ -46,7 +46,7 @@ fn after(t: Judged<'_>, marks: &[u8], place: usize) -> Option<usize>
 }
 
 // Answer 1 of the walk: place 0 is good.
-fn wrong_length(schema: &[u64], table: &[u64], marks: &[u8], place: usize) -> bool
+pub fn wrong_length(schema: &[u64], table: &[u64], marks: &[u8], place: usize) -> bool
     ensures { result ≡ (not (schema_length schema.now && table_length table.now && marks_length table.now marks.now) || ltb (used_at table.now) place || ltb (capacity_of table.now) place) }
 {
     let lengths = layout::schema_length(schema)

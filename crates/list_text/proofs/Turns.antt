@@ -2,20 +2,28 @@
 -- Assumes nothing.
 use Prim.Native.Nat.{ℕ, zero, suc, ◌+◌}
 use mathlib.Core.Path.{◌≡◌, refl, sym, ap, ◌∙◌}
-use mathlib.Core.Bool.{true, false, cond}
+use mathlib.Core.Bool.{true, false, not}
 use mathlib.Core.Logic.{◌⊎◌, inl, inr}
-use mathlib.Core.List.{List, [], ◌++◌, map}
+use mathlib.Core.List.{List, [], ◌∷◌, ◌++◌, map}
 use lib.Dec.{eqb}
-use borrow.Author.Tests.{ne_eqb}
 use Rattle.crdt.proofs.Tests.{test}
-use Rattle.std.specs.Prelude.{Option, Some, None, Result, Ok, Err}
-use Rattle.std.specs.Result.{result_unwrap_or}
+use Rattle.std.specs.Prelude.{Option, Some, None, Result, Ok, Err, IfOk, MatchOption}
+use Rattle.std.specs.Result.{result_ok, result_unwrap_or}
 use Rattle.answers.specs.declared.Refusal.{Refusal}
+use Rattle.answers.specs.declared.Refusal.TheVariants as refusal
 use Rattle.answers.specs.Told.{Told, told_ended}
-use Rattle.answers.specs.Refused.{given_told}
+use Rattle.answers.specs.Refused.{refusal_number, number_of, given_told}
 use Rattle.model.specs.Layout.{used_at}
+use Rattle.model.specs.Lists.{check, lowest}
+use Rattle.model.specs.Schemas.{broken}
+use Rattle.model.specs.Records.{least_above, position}
+use Rattle.model.specs.Tables.{decode}
+use Rattle.model.specs.WellFormed.{well_formed}
+use Rattle.judged.specs.Checked.{Checked}
+use Rattle.judged.specs.declared.Judged.{Judged}
 use Rattle.list_step.specs.Given.{given}
-use Rattle.model.specs.Calls.{done, walk_number, walk_given, walk_ended, Walked, walked, entry_at}
+use Rattle.list_step.proofs.Steps.{wrong, told_length, told_refused, told_given}
+use Rattle.model.specs.Calls.{done, marked, place_key, walk_number, walk_given, walk_ended, Walked, walked, entry_at}
 use Rattle.list_text.specs.Text.{line_text, lines_text}
 use Rattle.list_text.specs.declared.Out.{Out}
 use Rattle.list_text.specs.Written.{Written}
@@ -36,6 +44,31 @@ module _ (s t m : List ℕ) where
       rw (f, g)
   given_is p (Ok None) e = let g : 0 ≡ walk_given s t m p = ap (λ (x : Told). x.value) e in rw (sym g)
   given_is p (Err x) e = let g : 0 ≡ walk_given s t m p = ap (λ (x : Told). x.value) e in rw (sym g)
+
+  -- where check 1 refuses it
+  pub refused_length : (p : ℕ) → wrong s t m p ≡ true → None ≡ given (walk_given s t m p)
+  refused_length p h = given_is p (Err refusal.WrongLength) (told_length s t m p h)
+
+  -- where checks 2 and 3 do
+  pub refused_judged : (p : ℕ) → wrong s t m p ≡ false → (e : Refusal)
+      → refusal_number e ≡ lowest (check 2 (broken s) ∷ check 3 (not (well_formed s t)) ∷ []) → None ≡ given (walk_given s t m p)
+  refused_judged p h e f = given_is p (Err e) (told_refused s t m p h e f)
+
+  no_check : Checked s t → 0 ≡ lowest (check 2 (broken s) ∷ check 3 (not (well_formed s t)) ∷ [])
+  unfolding lowest
+  no_check c = rw (c.schema, c.formed)
+
+  -- and of a judged table
+  pub given_on : (p : ℕ) → wrong s t m p ≡ false → Checked s t → (i : Option ℕ)
+      → i ≡ given (position (least_above (place_key (decode t) p) (marked m (decode t).records)) (decode t).records) → i ≡ given (walk_given s t m p)
+  given_on p h c i e = given_is p (Ok i) (told_given s t m p i h (no_check c) e)
+
+  -- the table judged once: none where the walk's first step refuses
+  pub walkable_is : (r : Result Judged Refusal) (o : Option Judged) → o ≡ result_ok r → wrong s t m 0 ≡ false
+      → number_of r ≡ lowest (check 2 (broken s) ∷ check 3 (not (well_formed s t)) ∷ []) → IfOk r (λ j. (j.schema.now ≡ s) × (j.table.now ≡ t))
+      → MatchOption o (None ≡ given (walk_given s t m 0)) (λ j. (j.schema.now ≡ s) × (j.table.now ≡ t))
+  walkable_is (Ok j) o e h n k = rw e k
+  walkable_is (Err x) o e h n k = rw e (refused_judged 0 h x n)
 
   -- The lines from a record on, at most n of them; none is the end.
   unfoldable pub lines_from : ℕ → Option ℕ → List ℕ
@@ -94,3 +127,7 @@ module _ (s t m : List ℕ) where
 
     pub lines_end : now ≡ None → Leads a x b (lines_from n now) → Written a b x
     lines_end h l = leads_end (leads_as (ap (λ (y : Option ℕ). lines_from n y) h ∙ from_end n) l)
+
+  -- where the first step refuses, no line
+  pub lines_refused : (a : Out) → None ≡ given (walk_given s t m 0) → Written a a all_lines
+  lines_refused a e = lines_end (used_at t + 1) None refl (lines_start a (used_at t + 1) None refl e)

@@ -1,7 +1,7 @@
 // The list's text in a lent buffer: what the buffer has no room for is left out.
 #![tactic(auto)]
 
-ghost use Rattle.std.specs.Prelude.{◌≡◌, [], ◌∷◌, ◌++◌, map, ◌+◌, ◌≤◌};
+ghost use Rattle.std.specs.Prelude.{◌≡◌, [], ◌∷◌, ◌++◌, map, ◌+◌, ◌≤◌, None, MatchOption};
 ghost use Rattle.model.specs.Layout.{most_records, used_at, field_count, kind_at, value_at};
 ghost use Rattle.model.specs.Lists.{listed};
 ghost use Rattle.model.specs.Calls.{entry_at, walk_given, walked};
@@ -11,6 +11,7 @@ ghost use Rattle.list_text.specs.Placed.{Placed};
 ghost use Rattle.list_text.specs.Written.{Written};
 
 use crdt::Label;
+use judged::Judged;
 
 const SPACE: u8 = 32;
 
@@ -128,18 +129,29 @@ impl Out<'_> {
         self.put(NEWLINE);
     }
 
-    // The lines of the records that the walk gives, in its order. A table gives no more of them than it has used records.
+    // The lines of the records that the walk gives along a judged table, in its order. A table gives no more of them than it has used
+    // records.
+    fn lines_along(&mut self, t: Judged<'_>, marks: &[u8])
+        requires { used_at t.table.now ≤ most_records }
+        ensures { Written self.old self.new (lines_text t.entry.schema.now (map (entry_at t.entry.schema.now t.entry.table.now) (walked (used_at t.entry.table.now + 1) t.entry.schema.now t.entry.table.now marks.now 0).given)) }
+    {
+        let mut next = given_after(t, marks, 0);
+        for turn in 0..layout::used(t.table) + 1 {
+            let Some(i) = next else {
+                break;
+            };
+            self.line(t.schema, t.table, i);
+            next = given_after(t, marks, i);
+        }
+    }
+
+    // The same of any table: no line where the walk refuses.
     fn lines(&mut self, schema: &[u64], table: &[u64], marks: &[u8])
         requires { used_at table.now ≤ most_records }
         ensures { Written self.old self.new (lines_text schema.now (map (entry_at schema.now table.now) (walked (used_at table.now + 1) schema.now table.now marks.now 0).given)) }
     {
-        let mut next = given_after(schema, table, marks, 0);
-        for turn in 0..layout::used(table) + 1 {
-            let Some(i) = next else {
-                break;
-            };
-            self.line(schema, table, i);
-            next = given_after(schema, table, marks, i);
+        if let Some(t) = walkable(schema, table, marks) {
+            self.lines_along(t, marks);
         }
     }
 
@@ -160,13 +172,24 @@ fn digit(n: u64) -> u8
     48 + (n % 10) as u8
 }
 
-// The record that the walk gives after index `i`, none at the end and in a refusal.
-fn given_after(schema: &[u64], table: &[u64], marks: &[u8], i: usize) -> Option<usize>
-    ensures { result ≡ given (walk_given schema.now table.now marks.now i) }
+// The table judged once for all steps of the walk, each of which would judge it again; none where the first step refuses.
+fn walkable<'a>(schema: &'a [u64], table: &'a [u64], marks: &[u8]) -> Option<Judged<'a>>
+    ensures { MatchOption result (None ≡ given (walk_given schema.now table.now marks.now 0)) (λ t. (t.schema.now ≡ schema.now) × (t.table.now ≡ table.now)) }
 {
-    list_walk::next_from(schema, table, marks, i)
-        .answer
-        .unwrap_or(None)
+    if list_step::wrong_length(schema, table, marks, 0) {
+        return None;
+    }
+    judged::judge(schema, table).ok()
+}
+
+// The record that the walk gives after index `i`, none at the end and where it refuses.
+fn given_after(t: Judged<'_>, marks: &[u8], i: usize) -> Option<usize>
+    ensures { result ≡ given (walk_given t.entry.schema.now t.entry.table.now marks.now i) }
+{
+    if list_step::wrong_length(t.schema, t.table, marks, i) {
+        return None;
+    }
+    list_step::after(t, marks, i)
 }
 
 // The text of a refusal; the index after it.
