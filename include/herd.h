@@ -251,12 +251,12 @@ typedef uint64_t herd_delta[HERD_DELTA_WORDS];
 #define HERD_STACK_WIDEN 256
 #define HERD_STACK_NARROW 384
 #define HERD_STACK_INSERT 152128
-#define HERD_STACK_UPDATE 152192
+#define HERD_STACK_UPDATE 152128
 #define HERD_STACK_DELETE 152064
 #define HERD_STACK_MARKS 143808
 #define HERD_STACK_WALK 384
 #define HERD_STACK_VALUES 64
-#define HERD_STACK 152192 /* the largest of them */
+#define HERD_STACK 152128 /* the largest of them */
 
 /* The version of the linked library, as HERD_VERSION is made. */
 HERD_CALL uint64_t herd_version(void);

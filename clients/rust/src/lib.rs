@@ -101,4 +101,4 @@ pub use version::{version, version_fits, VERSION};
 
 /// The stack that a call of the static library `herd` needs at most, in bytes, as `tools/stack`
 /// measures it.
-pub const STACK: usize = 152192;
+pub const STACK: usize = 152128;

@@ -25,7 +25,7 @@ fn check_deletion(s: Surveyed<'_>, i: usize, redo: &mut [u8]) -> Result<(), Refu
     if !marks::is_marked(s.marks, i) {
         return Err(Refusal::NotShown);
     }
-    if edit_conflicts::is_held(s, i) {
+    if edit_conflicts::is_held(s, s.stands, i) {
         return Err(Refusal::Referenced);
     }
     edit_redo::mark_deletion(s, i, redo);

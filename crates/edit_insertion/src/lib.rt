@@ -12,6 +12,7 @@ ghost use Rattle.model.specs.Tables.{decode};
 ghost use Rattle.model.specs.Shown.{leads, conflict, standing};
 ghost use Rattle.model.specs.Edits.{values_rule, new_record, odd, spent};
 ghost use Rattle.model.specs.Calls.{insertion_of, insertion_number};
+ghost use Rattle.references.specs.Resolved.{Marked};
 ghost use Rattle.edit_delta.specs.Picked.{Picked};
 ghost use Rattle.edit_basics.specs.Targets.{kinds_of, bare, held};
 ghost use Rattle.edit_laws.specs.Clash.{Padded};
@@ -26,20 +27,21 @@ fn pad(values: &[u64]) -> [u64; layout::FIELDS]
     ensures { Padded values.now result }
 {
     let mut padded = [0u64; layout::FIELDS];
-    let n = values.len().min(layout::FIELDS);
-    padded[..n].copy_from_slice(&values[..n]);
+    for (j, value) in padded.iter_mut().enumerate() {
+        *value = layout::word(values, j);
+    }
     padded
 }
 
 // Whether a standing record conflicts with a new record of relation `r` on one of its two keys.
-pub fn is_insertion_taken(s: Surveyed<'_>, r: usize, values: &[u64]) -> bool
-    requires { (1 ≤ r) × (r ≤ relations s.t.schema.now) × (values_rule (kinds_of s.t.schema.now r) values.now ≡ true) }
-    ensures { result ≡ some_of (λ (y : Rec). conflict (schema_of s.entry.t.schema.now) y (new_record fields (decode s.entry.t.table.now) r values.now)) (standing (schema_of s.entry.t.schema.now) (held s.entry.t.table.now)) }
+pub fn is_insertion_taken(t: Judged<'_>, stands: &[u8], r: usize, values: &[u64]) -> bool
+    requires { Marked t.table.now (standing (schema_of t.schema.now) (held t.table.now)) stands.now × (1 ≤ r) × (r ≤ relations t.schema.now) × (values_rule (kinds_of t.schema.now r) values.now ≡ true) }
+    ensures { result ≡ some_of (λ (y : Rec). conflict (schema_of t.entry.schema.now) y (new_record fields (decode t.entry.table.now) r values.now)) (standing (schema_of t.entry.schema.now) (held t.entry.table.now)) }
 {
     let padded = pad(values);
-    let first = layout::mask_at(s.t.schema, r, 1);
-    let second = layout::mask_at(s.t.schema, r, 2);
-    edit_conflicts::is_taken(s, r, first, second, 0, &padded)
+    let first = layout::mask_at(t.schema, r, 1);
+    let second = layout::mask_at(t.schema, r, 2);
+    edit_conflicts::is_taken(t, stands, r, first, second, 0, &padded)
 }
 
 // Checks 11 to 13 of the insertion of a record; the marks of the records to be redone, where none applies.
@@ -84,7 +86,7 @@ fn check_insertion(
     if !edit_targets::targets_shown(s, r, values) {
         return Err(Refusal::TargetHidden);
     }
-    if is_insertion_taken(s, r, values) {
+    if is_insertion_taken(s.t, s.stands, r, values) {
         return Err(Refusal::KeyTaken);
     }
     judge_room(s.t, r, values, redo)

@@ -12,6 +12,7 @@ ghost use Rattle.model.specs.Tables.{decode, record_of};
 ghost use Rattle.model.specs.Shown.{described, standing};
 ghost use Rattle.model.specs.Edits.{new_label, with_register, update_conflict, update_redoes};
 ghost use Rattle.model.specs.Calls.{update_of, update_number};
+ghost use Rattle.references.specs.Resolved.{Marked};
 ghost use Rattle.edit_delta.specs.Picked.{Picked};
 ghost use Rattle.edit_basics.specs.Targets.{held, Placed};
 ghost use Rattle.edit_laws.specs.Clash.{narrowed, Renewed};
@@ -45,15 +46,15 @@ fn renew(table: &[u64], i: usize, f: usize, new: u64) -> [u64; layout::FIELDS]
 }
 
 // Whether another standing record would conflict with record `i` on a key that names field `f`, were the new value there.
-pub fn is_update_taken(s: Surveyed<'_>, i: usize, f: usize, new: u64) -> bool
-    requires { Placed s.t.schema.now s.t.table.now i × (1 ≤ f) × (f ≤ fields) }
-    ensures { result ≡ some_of (λ (z : Rec). update_conflict (schema_of s.entry.t.schema.now) (described (schema_of s.entry.t.schema.now) (record_of s.entry.t.table.now i)) f z (with_register (record_of s.entry.t.table.now i) f (reg new (new_label (decode s.entry.t.table.now))))) (standing (schema_of s.entry.t.schema.now) (held s.entry.t.table.now)) }
+pub fn is_update_taken(t: Judged<'_>, stands: &[u8], i: usize, f: usize, new: u64) -> bool
+    requires { Placed t.schema.now t.table.now i × Marked t.table.now (standing (schema_of t.schema.now) (held t.table.now)) stands.now × (1 ≤ f) × (f ≤ fields) }
+    ensures { result ≡ some_of (λ (z : Rec). update_conflict (schema_of t.entry.schema.now) (described (schema_of t.entry.schema.now) (record_of t.entry.table.now i)) f z (with_register (record_of t.entry.table.now i) f (reg new (new_label (decode t.entry.table.now))))) (standing (schema_of t.entry.schema.now) (held t.entry.table.now)) }
 {
-    let renewed = renew(s.t.table, i, f, new);
-    let r = layout::relation_at(s.t.table, i);
-    let first = narrow(layout::mask_at(s.t.schema, r, 1), f);
-    let second = narrow(layout::mask_at(s.t.schema, r, 2), f);
-    edit_conflicts::is_taken(s, r, first, second, i, &renewed)
+    let renewed = renew(t.table, i, f, new);
+    let r = layout::relation_at(t.table, i);
+    let first = narrow(layout::mask_at(t.schema, r, 1), f);
+    let second = narrow(layout::mask_at(t.schema, r, 2), f);
+    edit_conflicts::is_taken(t, stands, r, first, second, i, &renewed)
 }
 
 // Checks 6 to 13 of the update of field `f` of record `i`; the marks of the records to be redone, where none applies.
@@ -85,7 +86,7 @@ fn check_update(
     if !edit_targets::target_shown(s, kind, new) {
         return Err(Refusal::TargetHidden);
     }
-    if is_update_taken(s, i, f, new) {
+    if is_update_taken(s.t, s.stands, i, f, new) {
         return Err(Refusal::KeyTaken);
     }
     if layout::clock(s.t.table) == Label::LARGEST_COUNTER {

@@ -19,7 +19,7 @@ any-requires-clause-callable c =
 pub returns : goal.returns
 returns c =
     let a = c.args in
-    any_upto (λ z. is_marked a.s.stands.now z && aborting a.s.t.schema.now a.s.t.table.now a.i (record_of a.s.t.table.now z)) _ _ _ _ _
+    any_upto (λ z. is_marked a.stands.now z && aborting a.s.t.schema.now a.s.t.table.now a.i (record_of a.s.t.table.now z)) _ _ _ _ _
     c.new.ensures.start (c.new.ensures.end ∙ c.used.ensures) c.new.ensures.exhausted c.any.ensures.ran (λ x b q h. search rules) _
-    (λ y l m h. sym (stand_found _ _ _ a.s.t.checked a.s.standing_marks _ (aborting a.s.t.schema.now a.s.t.table.now a.i) (λ z k n. refl) y l m h))
-    (λ h. sym (stand_none _ _ _ a.s.t.checked a.s.standing_marks _ (aborting a.s.t.schema.now a.s.t.table.now a.i) (λ z k n. refl) h))
+    (λ y l m h. sym (stand_found _ _ _ a.s.t.checked c.requires.1 _ (aborting a.s.t.schema.now a.s.t.table.now a.i) (λ z k n. refl) y l m h))
+    (λ h. sym (stand_none _ _ _ a.s.t.checked c.requires.1 _ (aborting a.s.t.schema.now a.s.t.table.now a.i) (λ z k n. refl) h))

@@ -12,5 +12,5 @@ use Rattle.edit_insertion.proofs.is_insertion_taken.Goals as goal
 pub returns : goal.returns
 returns c =
     let q = c.requires in
-    c.is_taken.ensures (λ (y : Rec). conflict (schema_of c.args.s.t.schema.now) y (new_record fields (decode c.args.s.t.table.now) c.args.r c.args.values.now))
-    (insertion_clash _ _ c.args.s.t.checked _ _ q.2 q.0 q.1 _ _ c.mask_at-first.ensures c.mask_at-second.ensures _ c.pad-padded.ensures)
+    c.is_taken.ensures (λ (y : Rec). conflict (schema_of c.args.t.schema.now) y (new_record fields (decode c.args.t.table.now) c.args.r c.args.values.now))
+    (insertion_clash _ _ c.args.t.checked _ _ q.3 q.1 q.2 _ _ c.mask_at-first.ensures c.mask_at-second.ensures _ c.pad-padded.ensures)

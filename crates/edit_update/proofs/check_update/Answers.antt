@@ -40,7 +40,7 @@ is_update_taken-requires c =
     let o = c.requires.0 in
     let l = field_within _ _ _ _ c.relation_at-r.ensures _ _ c.field_count.ensures c.if-field_count-f.false in
     let u = fields_most _ _ o.checked _ o.least o.most in
-    (o, c.if-f-lt1.false, omega arith)
+    (o, c.args.s.standing_marks, c.if-f-lt1.false, omega arith)
 
 pub returns-then-is_update_taken-clause-number : goal.returns-then-is_update_taken-clause-number
 returns-then-is_update_taken-clause-number c =
