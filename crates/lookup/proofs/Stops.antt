@@ -32,7 +32,8 @@ unfoldable record_words : Unit {0}
 unfolding base_in base relation_in label_in flag_in value_in stamp_in relation_at label_at flag_at value_at stamp_at next_in next_at
 record_words = tt
 
-read_same : (s t : List ℕ) (r from i : ℕ) → read_rule_in fields s t r from i ≡ read_rule s t r from i
+-- with twelve fields a record read on the way is good by the page's rule
+pub read_same : (s t : List ℕ) (r from i : ℕ) → read_rule_in fields s t r from i ≡ read_rule s t r from i
 unfolding record_words read_rule_in read_rule chain_step_in chain_step record_rules_in record_rules counters_rule_in counters_rule block_in block count_in kind_in field_count kind_at
 read_same s t r from i = refl
 

@@ -35,7 +35,7 @@ unfoldable record_words_lem : Unit {0}
 unfolding base_in base relation_in label_in flag_in value_in stamp_in relation_at label_at flag_at value_at stamp_at
 record_words_lem = tt
 
-record_same : (s t : List ℕ) (i : ℕ) → (record_rules_in fields s t i && counters_rule_in fields s t i) ≡ (record_rules s t i && counters_rule s t i)
+pub record_same : (s t : List ℕ) (i : ℕ) → (record_rules_in fields s t i && counters_rule_in fields s t i) ≡ (record_rules s t i && counters_rule s t i)
 unfolding record_words_lem record_rules_in record_rules counters_rule_in counters_rule block_in block count_in kind_in field_count kind_at
 record_same s t i = refl
 
@@ -45,16 +45,20 @@ from_same zero t i = refl
 from_same (suc n) t zero = refl
 from_same (suc n) t (suc i) = ap (λ (l : List ℕ). suc i ∷ l) (from_same n t _)
 
-chain_same : (t : List ℕ) (r : ℕ) → chain_in fields t r ≡ chain_of t r
+pub chain_same : (t : List ℕ) (r : ℕ) → chain_in fields t r ≡ chain_of t r
 unfolding chain_in chain_of
 chain_same t r = from_same (used_at t + 1) t (first_at t r)
 
-rises_same : (t : List ℕ) (r low : ℕ) (l : List ℕ) → rises_in fields t r low l ≡ rises t r low l
+pub step_same : (t : List ℕ) (r low i : ℕ) → chain_step_in fields t r low i ≡ chain_step t r low i
+unfolding chain_step_in chain_step next_in next_at relation_in relation_at label_in label_at base_in base
+step_same t r low i = refl
+
+pub rises_same : (t : List ℕ) (r low : ℕ) (l : List ℕ) → rises_in fields t r low l ≡ rises t r low l
 unfolding rises_in rises chain_step_in chain_step next_in next_at relation_in relation_at label_in label_at base_in base
 rises_same t r low [] = refl
 rises_same t r low (i ∷ is) = ap (λ (b : Bool). chain_step t r low i && b) (rises_same t r (label_at t i) is)
 
-on_same : (t : List ℕ) (i : ℕ) → on_chain_in fields t i ≡ on_chain t i
+pub on_same : (t : List ℕ) (i : ℕ) → on_chain_in fields t i ≡ on_chain t i
 unfolding on_chain_in on_chain
 on_same t i = any_ext most_relations _ _ (λ r a b. rw (chain_same t r))
 
@@ -62,7 +66,7 @@ pub rest_same : (t : List ℕ) → rest_zero_in fields t ≡ rest_zero t
 unfolding rest_zero_in rest_zero base_in base
 rest_same t = refl
 
-rise_same : (t : List ℕ) → chains_rise_in fields t ≡ chains_rise t
+pub rise_same : (t : List ℕ) → chains_rise_in fields t ≡ chains_rise t
 unfolding chains_rise_in chains_rise
 rise_same t = each_ext most_relations _ _ (λ r a b. rw (chain_same t r) (rises_same t r 0 (chain_of t r)))
 

@@ -160,20 +160,18 @@ impl<'a, const F: usize> Row<'a, F> {
     }
 }
 
-// A schema and a table of `F` fields whose records can be read: the numbers that say where they lie are in their ranges.
+// The records of a table of `F` fields under a schema: the numbers that their rules ask for are in their ranges.
 #[derive(Clone, Copy)]
-pub struct Readable<'a, const F: usize> {
+pub struct Records<'a, const F: usize> {
     pub schema: &'a [u64],
     pub table: &'a [u64],
     ghost form: { F ≤ fields },
     ghost long: { length schema.now ≡ 1 + most_relations * (F + 4) },
     ghost related: { relations schema.now ≤ most_relations },
     ghost clocked: { clock_at table.now ≤ largest_counter },
-    ghost stored: { used_at table.now ≤ capacity_in F table.now },
-    ghost few: { used_at table.now ≤ most_records },
 }
 
-impl<'a, const F: usize> Readable<'a, F> {
+impl<'a, const F: usize> Records<'a, F> {
     // A record by its own words.
     fn row_good(self, words: &[u64]) -> bool
         requires { length words.now ≡ head_words + 2 * F }
@@ -206,11 +204,38 @@ impl<'a, const F: usize> Readable<'a, F> {
     }
 
     // The own words of record `i`, and its counters under the clock.
-    pub fn record_good(self, i: usize) -> bool
-        requires { (1 ≤ i) × (i ≤ used_at self.table.now) }
+    pub fn good(self, i: usize) -> bool
+        requires { (1 ≤ i) × (i ≤ capacity_in F self.table.now) }
         ensures { result ≡ (record_rules_in F self.entry.schema.now self.entry.table.now i && counters_rule_in F self.entry.schema.now self.entry.table.now i) }
     {
         let a = layout::base_in::<F>(i);
         self.row_good(&self.table[a..a + (layout::HEAD_WORDS + 2 * F)])
+    }
+}
+
+// A schema and a table of `F` fields whose records can be read: the numbers that say where they lie are in their ranges.
+#[derive(Clone, Copy)]
+pub struct Readable<'a, const F: usize> {
+    pub schema: &'a [u64],
+    pub table: &'a [u64],
+    ghost form: { F ≤ fields },
+    ghost long: { length schema.now ≡ 1 + most_relations * (F + 4) },
+    ghost related: { relations schema.now ≤ most_relations },
+    ghost clocked: { clock_at table.now ≤ largest_counter },
+    ghost stored: { used_at table.now ≤ capacity_in F table.now },
+    ghost few: { used_at table.now ≤ most_records },
+}
+
+impl<'a, const F: usize> Readable<'a, F> {
+    // The own words of record `i`, and its counters under the clock.
+    pub fn record_good(self, i: usize) -> bool
+        requires { (1 ≤ i) × (i ≤ used_at self.table.now) }
+        ensures { result ≡ (record_rules_in F self.entry.schema.now self.entry.table.now i && counters_rule_in F self.entry.schema.now self.entry.table.now i) }
+    {
+        Records::<F> {
+            schema: self.schema,
+            table: self.table,
+        }
+        .good(i)
     }
 }

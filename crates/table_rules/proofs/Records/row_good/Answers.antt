@@ -1,4 +1,4 @@
--- `table_rules::Readable::row_good` meets its contract.
+-- `table_rules::Records::row_good` meets its contract.
 -- Assumes nothing.
 use Prim.Native.Nat.{ℕ, ◌≤◌}
 use mathlib.Core.Path.{sym, ◌∙◌, ap}
@@ -9,7 +9,7 @@ use Rattle.layout.proofs.Forms.{block_inside}
 use Rattle.layout.proofs.Words.{part_at}
 use Rattle.table_rules.specs.Rows.{row_good}
 use Rattle.table_rules.proofs.Rows.{row_low, row_high, row_named, row_flag, row_fields}
-use Rattle.table_rules.proofs.Readable.row_good.Goals as goal
+use Rattle.table_rules.proofs.Records.row_good.Goals as goal
 
 pub returns-then-relation-lt1 : goal.returns-then-relation-lt1
 unfolding word
