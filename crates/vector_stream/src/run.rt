@@ -23,8 +23,29 @@ pub trait Calls {
     fn takes_slices(&self, call: u8) -> bool;
 
     // Takes the numbers of an item, makes its call on its slices and compares what comes back.
+    fn run<'a>(&mut self, call: u8, item: Item<'a>, slices: &mut Slices<'_>) -> Back<'a>;
+}
+
+// Calls that leave no more of the stream to be read than their item had. They are calls of a program.
+pub trait ForwardCalls {
+    // Whether a call takes the slices that its row names.
+    fn takes_slices(&self, call: u8) -> bool;
+
+    // Takes the numbers of an item, makes its call on its slices and compares what comes back.
     fn run<'a>(&mut self, call: u8, item: Item<'a>, slices: &mut Slices<'_>) -> Back<'a>
         ensures { length result.item.told.rest.now ≤ length item.entry.told.rest.now };
+}
+
+impl<C: ForwardCalls> Calls for C {
+    fn takes_slices(&self, call: u8) -> bool {
+        ForwardCalls::takes_slices(self, call)
+    }
+
+    fn run<'a>(&mut self, call: u8, item: Item<'a>, slices: &mut Slices<'_>) -> Back<'a>
+        ensures { length result.item.told.rest.now ≤ length item.entry.told.rest.now }
+    {
+        ForwardCalls::run(self, call, item, slices)
+    }
 }
 
 // Reads the vector stream of these calls from standard input, runs its items on the library and compares what comes back. It
@@ -101,9 +122,7 @@ fn run_item<'a, C: Calls>(
     from: Stream<'a>,
     buffers: &mut Buffers<'_>,
     taken: &mut Taken,
-) -> Back<'a>
-    ensures { length result.item.told.rest.now ≤ length from.entry.rest.now }
-{
+) -> Back<'a> {
     let row = rows::row(rows, call);
     let takes = calls.takes_slices(call);
     let mut s = from;

@@ -4,14 +4,14 @@ ghost use Rattle.std.specs.Prelude.{◌≤◌, length};
 
 use answers::Refusal;
 use vector_stream::items::{Back, Item, Lent, Slices};
-use vector_stream::run::Calls;
+use vector_stream::run::ForwardCalls;
 
 const KINDS: u64 = 6;
 
 #[derive(Drop)]
 pub struct Book;
 
-impl Calls for Book {
+impl ForwardCalls for Book {
     fn takes_slices(&self, _call: u8) -> bool {
         true
     }

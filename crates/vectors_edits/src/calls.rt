@@ -2,12 +2,12 @@
 ghost use Rattle.std.specs.Prelude.{◌≤◌, length};
 
 use vector_stream::items::{Back, Item, Lent, Slices};
-use vector_stream::run::Calls;
+use vector_stream::run::ForwardCalls;
 
 #[derive(Drop)]
 pub struct Edits;
 
-impl Calls for Edits {
+impl ForwardCalls for Edits {
     fn takes_slices(&self, _call: u8) -> bool {
         true
     }

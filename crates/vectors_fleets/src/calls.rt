@@ -4,9 +4,9 @@ ghost use Rattle.std.specs.Prelude.{◌<◌, ◌≤◌, length};
 use crate::slots::{Fleet, Held, MOST_MARKS, SLOTS};
 use list_walk::Place;
 use vector_stream::items::{Back, Item, Slices};
-use vector_stream::run::Calls;
+use vector_stream::run::ForwardCalls;
 
-impl Calls for Fleet {
+impl ForwardCalls for Fleet {
     fn takes_slices(&self, _call: u8) -> bool {
         true
     }

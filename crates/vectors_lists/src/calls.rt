@@ -4,7 +4,7 @@ ghost use Rattle.std.specs.Prelude.{◌≡◌, ◌≤◌, length};
 
 use list_walk::Place;
 use vector_stream::items::{Back, Item, Lent, Slices};
-use vector_stream::run::Calls;
+use vector_stream::run::ForwardCalls;
 
 // How many marks are held: a table has at most 4,096 records, and a wrong length a few more.
 const MOST_MARKS: usize = layout::MOST_RECORDS + 4;
@@ -12,7 +12,7 @@ const MOST_MARKS: usize = layout::MOST_RECORDS + 4;
 #[derive(Drop)]
 pub struct Lists;
 
-impl Calls for Lists {
+impl ForwardCalls for Lists {
     fn takes_slices(&self, _call: u8) -> bool {
         true
     }

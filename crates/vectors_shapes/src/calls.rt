@@ -3,13 +3,13 @@ ghost use Rattle.std.specs.Prelude.{◌≤◌, length};
 
 use answers::Refusal;
 use vector_stream::items::{Back, Item, Lent, Slices};
-use vector_stream::run::Calls;
+use vector_stream::run::ForwardCalls;
 use vector_stream::stream;
 
 #[derive(Drop)]
 pub struct Shapes;
 
-impl Calls for Shapes {
+impl ForwardCalls for Shapes {
     fn takes_slices(&self, _call: u8) -> bool {
         true
     }

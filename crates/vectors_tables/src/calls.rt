@@ -4,12 +4,12 @@ ghost use Rattle.std.specs.Prelude.{◌≤◌, length};
 
 use crdt::{Label, Register};
 use vector_stream::items::{Back, Item, Lent, Slices};
-use vector_stream::run::Calls;
+use vector_stream::run::ForwardCalls;
 
 #[derive(Drop)]
 pub struct Tables;
 
-impl Calls for Tables {
+impl ForwardCalls for Tables {
     // The calls on labels, registers and flags take numbers alone.
     fn takes_slices(&self, call: u8) -> bool {
         !(1..=5).contains(&call)
